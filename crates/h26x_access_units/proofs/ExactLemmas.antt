@@ -1,5 +1,5 @@
 -- The numbers that are told to be missing are exactly those that are.
-use Rattle.std.proofs.Common.{◌≡◌, ◌∙◌, ap, sym, subst, refl, ℕ, zero, suc, ◌+◌, ◌<◌, ◌≤◌, Bool, true, false, List, [], ◌∷◌, Option, Some, None, arith}
+use Rattle.std.proofs.Common.{◌≡◌, ◌∙◌, ap, sym, subst, refl, ℕ, zero, suc, ◌+◌, ◌-◌, ◌<◌, ◌≤◌, Bool, true, false, List, [], ◌∷◌, Option, Some, None, arith}
 use Rattle.std.specs.Prelude.{◌==◌, ◌||◌, ◌&&◌, not, nat_lt}
 use Rattle.std.specs.List.{list_any}
 use Rattle.std.proofs.lemmas.List.Folds.{list_any-append}
@@ -8,6 +8,7 @@ use Rattle.h26x_core.specs.Sequence.{distance_ahead, next_sequence_number}
 use Rattle.h26x_reorder.specs.Rtp.{RtpBody}
 use Rattle.h26x_reorder.specs.ReorderBuffer.{is_number_held, last_number, AreHeldInOrder, IsHeldInOrder}
 use Rattle.h26x_reorder.proofs.BufferLemmas.{rest_in_order}
+use Rattle.h26x_access_units.specs.JitterBuffer.{awaited_number}
 use Rattle.h26x_access_units.specs.Missing.{numbers_from, missing_before, missing_numbers, is_before_last, AreExactlyMissing}
 use Rattle.h26x_access_units.proofs.PassedLemmas.{further}
 
@@ -165,6 +166,30 @@ exact due n (p ∷ held) d s order =
 pub exactly_missing : (due : Option ℕ) (held : List (ℕ × RtpBody)) → IsHeldInOrder due held → AreExactlyMissing due held (missing_numbers due held)
 exactly_missing None held order = refl
 exactly_missing (Some due) held order = λ n s. exact due n held order.0 s order.1
+
+-- in order from one that is due, packets are so from one that is no farther than the first
+in_order_from : (due near from : ℕ) (held : List (ℕ × RtpBody)) → due < 65536 → near < 65536 → distance_ahead due near ≤ from → AreHeldInOrder due from held →
+    AreHeldInOrder near (from - distance_ahead due near) held
+in_order_from due near from [] d n le order = tt
+in_order_from due near from (p ∷ held) d n le order =
+    let one = order.0 in
+    let at = order.1 in
+    let far = order.2 in
+    let rest = in_order_from due near (distance_ahead due p.0 + 1) held d n (omega (arith, le, at)) order.3 in
+    let same : distance_ahead due p.0 + 1 - distance_ahead due near ≡ distance_ahead near p.0 + 1 = omega (arith, one, at, far, le) in
+    (one, omega (arith, one, at, far, le), omega (arith, one, at, far, le), subst (λ (k : ℕ). AreHeldInOrder near k held) same rest)
+
+-- what waits is in order from the number on from which others may be missing
+pub awaited_in_order : (has_begun : Bool) (due : Option ℕ) (held : List (ℕ × RtpBody)) → IsHeldInOrder due held → IsHeldInOrder (awaited_number has_begun due held) held
+awaited_in_order true due held order = order
+awaited_in_order false due [] order = order
+awaited_in_order false None (p ∷ held) order = absurd (let bad = order in cc)
+awaited_in_order false (Some due) (p ∷ held) order =
+    let one = order.1.0 in
+    let near = order.1.2 in
+    let rest = in_order_from due p.0 (distance_ahead due p.0 + 1) held order.0 one (omega arith) order.1.3 in
+    let same : distance_ahead due p.0 + 1 - distance_ahead due p.0 ≡ distance_ahead p.0 p.0 + 1 = omega (arith, one, near) in
+    (one, (one, omega arith, omega (arith, one), subst (λ (k : ℕ). AreHeldInOrder p.0 k held) same rest))
 
 -- so of numbers that are these
 pub exact_of : (due : Option ℕ) (held : List (ℕ × RtpBody)) (numbers : List ℕ) → IsHeldInOrder due held → numbers ≡ missing_numbers due held → AreExactlyMissing due held numbers

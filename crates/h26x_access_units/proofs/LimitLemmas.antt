@@ -21,7 +21,7 @@ use Rattle.h26x_access_units.specs.declared.pushed.Pushed.TheVariants as pushes
 use Rattle.h26x_access_units.specs.Numbers.{bears_nothing}
 use Rattle.h26x_access_units.specs.JitterBuffer.{JitterState, held_bytes, is_full, is_far, jitter_answer, after_jitter, with_held_limit, fresh_jitter}
 use Rattle.h26x_access_units.specs.Pushed.{as_pushed}
-use Rattle.h26x_access_units.specs.Reception.{Reception, reception_answer, after_reception, is_behind_stray, pushed_to, anew_of, assembly_after, is_taken_at_once, IsDueTaken, IsPushed, IsDrained, none, more, ended_if_anew, ended_if_over, has_no_unit, without_given, without_given_of, fresh_reception, IsNext}
+use Rattle.h26x_access_units.specs.Reception.{Reception, reception_answer, after_reception, is_behind_stray, pushed_to, anew_of, assembly_after, is_taken_at_once, IsDueTaken, IsEndedBehindMissing, begun_for, IsPushed, IsDrained, none, more, behind, ended_if_anew, ended_if_over, has_no_unit, without_given, without_given_of, fresh_reception, IsNext}
 use Rattle.h26x_access_units.specs.ReceivedAccessUnit.{ReceivedAccessUnitValue}
 use Rattle.h26x_access_units.specs.Limits.{stray_len, IsWithinLimits, StaysWithinLimits}
 
@@ -212,14 +212,19 @@ goes_bytes window due (p ∷ held) = omega arith
 
 due_within : (most now : ℕ) (s t : Reception) → IsDueTaken now s t → IsWithinLimits most s → IsWithinLimits most t
 due_within most now s t it is =
-    let assembler = assembly_within s.run_limit s.unit_limit s.assembler it.packet it.answer (record { run = is.run; unit = is.unit }) in
+    let assembler = assembly_within s.run_limit s.unit_limit (begun_for s.assembler it.packet) it.packet it.answer (record { run = is.run; unit = is.unit }) in
     let less = goes_bytes s.waiting.buffer.window s.waiting.buffer.due s.waiting.buffer.held in
     let at = is.waiting in
     subst (IsWithinLimits most) (sym it.stands) (record { waiting = omega (arith, less, at); stray = is.stray; run = assembler.run; unit = assembler.unit })
 
+-- where one ended behind numbers that are missing
+ended_within : (most now : ℕ) (s t : Reception) → IsEndedBehindMissing now s t → IsWithinLimits most s → IsWithinLimits most t
+ended_within most now s t it is = subst (IsWithinLimits most) (sym it.stands) (record { waiting = is.waiting; stray = is.stray; run = omega arith; unit = omega arith })
+
 pub drained_within : (most now : ℕ) (s t : Reception) → IsDrained now s t → IsWithinLimits most s → IsWithinLimits most t
 drained_within most now s t none is = is
 drained_within most now s t (more before empty taken) is = due_within most now _ t taken (drained_within most now s _ before is)
+drained_within most now s t (behind before empty ended) is = ended_within most now _ t ended (drained_within most now s _ before is)
 
 pub anew_within : (most : ℕ) (s : Reception) → IsWithinLimits most s → IsWithinLimits most (ended_if_anew s)
 anew_within most s is = elim (has_no_unit s.assembler.ended && s.is_anew) as (λ b. (has_no_unit s.assembler.ended && s.is_anew) ≡ b → IsWithinLimits most (ended_if_anew s)) [

@@ -1,33 +1,40 @@
 -- Packets that are due, taken one after the other, or at once.
-use Rattle.std.proofs.Common.{◌≡◌, ◌∙◌, ap, sym, subst, ℕ, ◌+◌, ◌<◌, Bool, true, false, cond, List, [], ◌∷◌, length, Option, Some, None, refl, arith}
-use Rattle.std.specs.Prelude.{◌==◌, ◌||◌, ◌&&◌, nat_lt, nat_le, slice_get}
-use Rattle.h26x_core.specs.Sequence.{distance_ahead, distance_behind, is_late}
+use Rattle.std.proofs.Common.{◌≡◌, ◌∙◌, ap, sym, subst, ℕ, ◌+◌, ◌*◌, ◌<◌, Bool, true, false, cond, List, [], ◌∷◌, length, Option, Some, None, inl, inr, map, slice_index_or, refl, arith}
+use Rattle.std.specs.Prelude.{remove}
+use Rattle.h26x_assembler.specs.declared.access_unit.AccessUnit.{AccessUnit}
+use Rattle.std.specs.Prelude.{◌==◌, ◌||◌, ◌&&◌, if◌then◌else◌, ◌⊎◌, nat_lt, nat_le, slice_get}
+use Rattle.h26x_core.specs.Sequence.{distance_ahead, distance_behind, is_late, is_expected, missing_count}
 use Rattle.std.proofs.lemmas.Bool.Decides.{nat_tests}
 use Rattle.h26x_reorder.specs.Rtp.{RtpBody}
 use Rattle.h26x_reorder.specs.ReorderBuffer.{BufferState, buffer_state, goes_straight, push_answer, after_push, first_ready, next_packet, without_first_of}
 use Rattle.h26x_reorder.proofs.BufferLemmas.{none_held, held_alone}
 use Rattle.h26x_core.specs.declared.error.PacketError.{PacketError}
-use Rattle.std.specs.Prelude.{Result, Ok, Err, IfOk, MatchBool, not}
+use Rattle.std.specs.Prelude.{Result, Ok, Err, IfOk, MatchBool, not, is_some}
 use Rattle.h26x_receiver.specs.declared.received.Received.{Received}
 use Rattle.h26x_receiver.specs.declared.received.Received.TheVariants.{InOrder, Gap, TooLong, Late}
 use Rattle.h26x_receiver.specs.Sequenced.{is_taken}
-use Rattle.h26x_assembler.specs.AccessUnit.{AccessUnitValue, Assembly, is_text_given_up, after_rtp, after_finishing}
+use Rattle.h26x_assembler.specs.AccessUnit.{AccessUnitValue, access_unit_value, Assembly, is_unit_at, is_text_given_up, after_rtp, after_finishing}
 use Rattle.h26x_access_units.specs.declared.counts.Counts.{Counts}
+use Rattle.h26x_access_units.specs.declared.decoder.DecoderState.{DecoderState}
 use Rattle.h26x_access_units.specs.declared.numbers.NumbersSoFar.{NumbersSoFar}
 use Rattle.h26x_reorder.specs.declared.pushed.Pushed.TheVariants as buffered
 use Rattle.h26x_access_units.specs.declared.pushed.Pushed.{Pushed}
 use Rattle.h26x_access_units.specs.declared.pushed.Pushed.TheVariants as pushes
-use Rattle.h26x_access_units.specs.Counts.{counted_due, counted_skip, counted_answer}
+use Rattle.h26x_access_units.specs.Counts.{counted_due, counted_skip, counted_answer, counted_dropped, counted_unit}
 use Rattle.h26x_access_units.specs.Pushed.{as_pushed}
-use Rattle.h26x_access_units.specs.Numbers.{bears_nothing, numbers_after, after_last}
+use Rattle.h26x_access_units.specs.Numbers.{bears_nothing, numbers_after, after_last, after_missing, first_ended, without_first_ended}
 use Rattle.h26x_access_units.specs.JitterBuffer.{JitterState, is_far, is_full, jitter_answer, is_pressed, due_packet, with_packet, without_due}
-use Rattle.h26x_access_units.specs.ReceivedAccessUnit.{ReceivedAccessUnitValue}
-use Rattle.h26x_access_units.specs.Reception.{Reception, reception, assembly_after, marker_forgotten, after_due, is_behind_stray, reception_answer, after_reception, has_no_unit, is_taken_at_once, is_idle, after_finish, ended_if_anew, ended_if_over, unit_given_of, unit_given, without_given_of, without_given, IsDueTaken, IsPushed, IsDrained, none, more, IsNext}
+use Rattle.h26x_access_units.specs.ReceivedAccessUnit.{ReceivedAccessUnitValue, received_unit, decoder_with, whole_with}
+use Rattle.h26x_access_units.specs.Reception.{Reception, reception, assembly_after, marker_forgotten, begun_for, expected_for, is_behind_missing, begins_behind_missing, after_due, is_behind_stray, reception_answer, after_reception, has_no_unit, is_taken_at_once, is_idle, after_finish, ended_if_anew, ended_if_over, unit_given_of, unit_given, without_given_of, without_given, IsDueTaken, IsPushed, IsDrained, none, more, behind, IsEndedBehindMissing, ended_behind_missing, IsDueTakenOrNone, FollowsWhereDue, IsEndedOrFollows, IsStepOrNone, IsStep, ended_alone, taken_alone, ended_and_taken, IsStepInPart, IsNext}
 
 -- where nothing is held nothing is ready
 none_ready : (window : ℕ) (due : Option ℕ) → first_ready {A = RtpBody} window due [] ≡ None
 none_ready window None = refl
 none_ready window (Some due) = refl
+
+at_most : (n m : ℕ) (b : Bool) → n + 1 ≡ m → n * 2 + cond b 1 0 < m * 2 + 1
+at_most n m true e = omega (arith, e)
+at_most n m false e = omega (arith, e)
 
 -- of a packet that is due there is one less once it went
 goes : (pressed : Bool) (window : ℕ) (due : Option ℕ) (held : List (ℕ × RtpBody)) (p : ℕ × RtpBody) →
@@ -66,17 +73,17 @@ counted_as expected c p answer x y = by (bears_nothing p.1.payload) answer
 
 -- what stands after a packet that was due, by its parts
 pub due_stands : (s : Reception) (p : ℕ × RtpBody) (a : Result Received PacketError) (waiting : JitterState) (assembler : Assembly) (numbers : NumbersSoFar) (counts : Counts) (run unit : ℕ) →
-    waiting ≡ without_due s.waiting → assembler ≡ marker_forgotten (assembly_after s.run_limit s.unit_limit s.assembler p a) → numbers ≡ numbers_after s.assembler.expected s.numbers p a →
-    counts ≡ counted_due s.assembler.expected s.counts p a (is_text_given_up s.run_limit s.unit_limit s.assembler p) →
-    run ≡ s.run_limit → unit ≡ s.unit_limit → reception waiting s.stray s.is_anew assembler numbers s.is_clean counts run unit ≡ after_due s p a
+    waiting ≡ without_due s.waiting → assembler ≡ marker_forgotten (assembly_after s.run_limit s.unit_limit (begun_for s.assembler p) p a) → numbers ≡ numbers_after (expected_for s.assembler.expected p) s.numbers p a →
+    counts ≡ counted_due (expected_for s.assembler.expected p) s.counts p a (is_text_given_up s.run_limit s.unit_limit (begun_for s.assembler p) p) →
+    run ≡ s.run_limit → unit ≡ s.unit_limit → reception waiting s.stray s.is_anew assembler numbers s.decoder counts run unit ≡ after_due s p a
 due_stands s p a waiting assembler numbers counts run unit w f n c r u =
     let after = after_due s p a in
-    ap (λ (x : JitterState). reception x s.stray s.is_anew assembler numbers s.is_clean counts run unit) w
-    ∙ ap (λ (x : Assembly). reception after.waiting s.stray s.is_anew x numbers s.is_clean counts run unit) f
-    ∙ ap (λ (x : NumbersSoFar). reception after.waiting s.stray s.is_anew after.assembler x s.is_clean counts run unit) n
-    ∙ ap (λ (x : Counts). reception after.waiting s.stray s.is_anew after.assembler after.numbers s.is_clean x run unit) c
-    ∙ ap (λ (x : ℕ). reception after.waiting s.stray s.is_anew after.assembler after.numbers s.is_clean after.counts x unit) r
-    ∙ ap (λ (x : ℕ). reception after.waiting s.stray s.is_anew after.assembler after.numbers s.is_clean after.counts s.run_limit x) u
+    ap (λ (x : JitterState). reception x s.stray s.is_anew assembler numbers s.decoder counts run unit) w
+    ∙ ap (λ (x : Assembly). reception after.waiting s.stray s.is_anew x numbers s.decoder counts run unit) f
+    ∙ ap (λ (x : NumbersSoFar). reception after.waiting s.stray s.is_anew after.assembler x s.decoder counts run unit) n
+    ∙ ap (λ (x : Counts). reception after.waiting s.stray s.is_anew after.assembler after.numbers s.decoder x run unit) c
+    ∙ ap (λ (x : ℕ). reception after.waiting s.stray s.is_anew after.assembler after.numbers s.decoder after.counts x unit) r
+    ∙ ap (λ (x : ℕ). reception after.waiting s.stray s.is_anew after.assembler after.numbers s.decoder after.counts s.run_limit x) u
 
 -- a packet that needn't wait is due where it waits, whatever the tick
 pub straight_is_due : (now at : ℕ) (j : JitterState) (p : ℕ × RtpBody) → p.0 < 65536 → goes_straight j.buffer p.0 ≡ true → due_packet now (with_packet at j p) ≡ Some p
@@ -94,14 +101,24 @@ none_of_units [] is = refl
 none_of_units (unit ∷ units) is = absurd (let bad = is in cc)
 
 -- what is known of a packet that is taken at once
-pub at_once : (s : Reception) (number : ℕ) → is_taken_at_once s number ≡ true → (goes_straight s.waiting.buffer number ≡ true) × (has_no_unit s.assembler.ended ≡ true) × (s.is_anew ≡ false)
-at_once s number = by (goes_straight s.waiting.buffer number) (has_no_unit s.assembler.ended) s.is_anew
+pub at_once : (s : Reception) (number : ℕ) → is_taken_at_once s number ≡ true → (goes_straight s.waiting.buffer number ≡ true) × (has_no_unit s.assembler.ended ≡ true) × (s.is_anew ≡ false) × (is_behind_missing s.assembler number ≡ false)
+at_once s number = by (goes_straight s.waiting.buffer number) (is_behind_missing s.assembler number) (has_no_unit s.assembler.ended) s.is_anew
   where
-    by : (a b c : Bool) → (a && (b && not c)) ≡ true → (a ≡ true) × (b ≡ true) × (c ≡ false)
-    by true true false e = (refl, refl, refl)
-    by true true true e = absurd (let bad = e in cc)
-    by true false c e = absurd (let bad = e in cc)
-    by false b c e = absurd (let bad = e in cc)
+    by : (a m b c : Bool) → (a && (not m && (b && not c))) ≡ true → (a ≡ true) × (b ≡ true) × (c ≡ false) × (m ≡ false)
+    by true false true false e = (refl, refl, refl, refl)
+    by true false true true e = absurd (let bad = e in cc)
+    by true false false c e = absurd (let bad = e in cc)
+    by true true b c e = absurd (let bad = e in cc)
+    by false m b c e = absurd (let bad = e in cc)
+
+-- it begins no access unit behind numbers that are missing
+pub at_once_follows : (s : Assembly) (p : ℕ × RtpBody) → is_behind_missing s p.0 ≡ false → begins_behind_missing s p ≡ false
+at_once_follows s p is = by (bears_nothing p.1.payload) (is_unit_at s.unit p.1.timestamp) (is_behind_missing s p.0) is
+  where
+    by : (a b c : Bool) → c ≡ false → (not a && (not b && c)) ≡ false
+    by true b c e = refl
+    by false true c e = refl
+    by false false c e = e
 
 -- it is answered as one that is held
 neither : (a b : Bool) → a ≡ false → b ≡ false → (a || b) ≡ false
@@ -140,12 +157,13 @@ taken_later : (now later : ℕ) (s t : Reception) (p : ℕ × RtpBody) → p.0 <
     IsDueTaken now (after_reception now s p pushes.Held) t → IsDueTaken later (after_reception now s p pushes.Held) t
 taken_later now later s t p small is it =
     let same : Some p ≡ Some it.packet = sym (straight_is_due now now s.waiting p small is) ∙ it.due in
-    record { packet = it.packet; answer = it.answer; due = straight_is_due later now s.waiting p small is ∙ same; answered = it.answered; room = it.room; stands = it.stands }
+    record { packet = it.packet; answer = it.answer; due = straight_is_due later now s.waiting p small is ∙ same; follows = it.follows; answered = it.answered; room = it.room; stands = it.stands }
 
 -- one more that was taken first
 one_before : (now : ℕ) (s t u : Reception) → s.assembler.ended ≡ [] → IsDueTaken now s t → IsDrained now t u → IsDrained now s u
 one_before now s t u empty taken none = more none empty taken
 one_before now s t u empty taken (more before ended last) = more (one_before now s t _ empty taken before) ended last
+one_before now s t u empty taken (behind before ended last) = behind (one_before now s t _ empty taken before) ended last
 
 -- where the stream hasn't begun anew none is ended for that
 pub not_anew : (s : Reception) → s.is_anew ≡ false → ended_if_anew s ≡ s
@@ -233,6 +251,139 @@ none_more now s = none
 -- one more packet that was taken
 pub one_more : (now : ℕ) (s t u : Reception) → IsDrained now s t → t.assembler.ended ≡ [] → IsDueTaken now t u → IsDrained now s u
 one_more now s t u before empty taken = more before empty taken
+
+-- so of a step
+pub one_step : (now : ℕ) (s t u : Reception) → IsDrained now s t → t.assembler.ended ≡ [] → IsStep now t u → IsDrained now s u
+one_step now s t u before empty (ended_alone it has) = behind before empty it
+one_step now s t u before empty (taken_alone it) = more before empty it
+one_step now s t u before empty (ended_and_taken it none_left taken) = more (behind before empty it) none_left taken
+
+-- and where memory lacked
+pub step_in_part : (now : ℕ) (s t u : Reception) → IsDrained now s t → t.assembler.ended ≡ [] → IsStepInPart now t u → IsDrained now s u
+step_in_part now s t u before empty (inl same) = subst (IsDrained now s) (sym same) before
+step_in_part now s t u before empty (inr it) = behind before empty it
+
+-- the first of access units that ended, once it was removed
+pub front_removed : (units new : List AccessUnit) (unit : AccessUnit) → (length units == 0) ≡ false → unit ≡ slice_index_or units 0 unit → new ≡ remove units 0 →
+    map access_unit_value units ≡ access_unit_value unit ∷ map access_unit_value new
+front_removed [] new unit some value items = absurd (let bad = some in cc)
+front_removed (u ∷ units) new unit some value items =
+    ap (λ (x : AccessUnit). access_unit_value x ∷ map access_unit_value units) (sym value)
+    ∙ ap (λ (l : List AccessUnit). access_unit_value unit ∷ map access_unit_value l) (sym items)
+
+-- what is given out where one has ended
+pub front_given : (s : Reception) (unit : AccessUnitValue) (rest : List AccessUnitValue) → s.assembler.ended ≡ unit ∷ rest →
+    unit_given s ≡ Some (received_unit s.decoder s.waiting.config.has_sets s.assembler.state.is_avc unit (first_ended s.numbers))
+front_given s unit rest is = ap (unit_given_of s) is
+
+-- and what stands then, by its parts
+pub without_front : (s : Reception) (unit : AccessUnitValue) (rest : List AccessUnitValue) (numbers : NumbersSoFar) (decoder : DecoderState) (counts : Counts) →
+    s.assembler.ended ≡ unit ∷ rest → numbers ≡ without_first_ended s.numbers →
+    decoder ≡ decoder_with s.decoder s.waiting.config.has_sets s.assembler.state.is_avc unit (first_ended s.numbers) →
+    counts ≡ counted_unit s.counts (whole_with s.decoder s.assembler.state.is_avc unit (first_ended s.numbers)) →
+    without_given s ≡ record s { assembler = record s.assembler { ended = rest }; numbers = numbers; decoder = decoder; counts = counts }
+without_front s unit rest numbers decoder counts is n d c =
+    ap (without_given_of s) is
+    ∙ ap (λ (x : NumbersSoFar). record s { assembler = record s.assembler { ended = rest }; numbers = x; decoder = decoder_with s.decoder s.waiting.config.has_sets s.assembler.state.is_avc unit (first_ended s.numbers); counts = counted_unit s.counts (whole_with s.decoder s.assembler.state.is_avc unit (first_ended s.numbers)) }) (sym n)
+    ∙ ap (λ (x : DecoderState). record s { assembler = record s.assembler { ended = rest }; numbers = numbers; decoder = x; counts = counted_unit s.counts (whole_with s.decoder s.assembler.state.is_avc unit (first_ended s.numbers)) }) (sym d)
+    ∙ ap (λ (x : Counts). record s { assembler = record s.assembler { ended = rest }; numbers = numbers; decoder = decoder; counts = x }) (sym c)
+
+-- two that are there are the same
+same_there : (p q : ℕ × RtpBody) → Some p ≡ Some q → p ≡ q
+same_there p q is = cc
+
+-- where the packet that is due begins no access unit behind numbers that are missing
+pub follows_where_due : (now : ℕ) (s : Reception) (p : ℕ × RtpBody) → due_packet now s.waiting ≡ Some p → begins_behind_missing s.assembler p ≡ false → FollowsWhereDue now s
+follows_where_due now s p due is = λ q other. subst (λ (x : ℕ × RtpBody). begins_behind_missing s.assembler x ≡ false) (same_there p q (sym due ∙ other)) is
+
+-- where no number is expected none begins so
+pub follows_none : (now : ℕ) (s : Reception) → s.assembler.expected ≡ None → FollowsWhereDue now s
+follows_none now s absent = λ p due. by (bears_nothing p.1.payload) (is_unit_at s.assembler.unit p.1.timestamp) (ap (λ (x : Option ℕ). is_some x && (not (is_late x p.0) && (s.assembler.is_gap || not (is_expected x p.0)))) absent)
+  where
+    by : {m : Bool} (a b : Bool) → m ≡ false → (not a && (not b && m)) ≡ false
+    by true b e = refl
+    by false true e = refl
+    by false false e = e
+
+-- so where one ended behind numbers that are missing
+pub follows_ended : (now : ℕ) (s t : Reception) → IsEndedBehindMissing now s t → FollowsWhereDue now t
+follows_ended now s t it = follows_none now t (ap (λ (r : Reception). r.assembler.expected) it.stands)
+
+-- what stands where one ended so, by its parts
+pub ended_stands : (s : Reception) (p : ℕ × RtpBody) (assembler : Assembly) (numbers : NumbersSoFar) (counts : Counts) (run unit : ℕ) →
+    assembler ≡ after_finishing s.assembler → numbers ≡ after_missing s.numbers (missing_count s.assembler.expected p.0) →
+    counts ≡ counted_dropped s.counts (missing_count s.assembler.expected p.0) →
+    run ≡ s.run_limit → unit ≡ s.unit_limit → reception s.waiting s.stray s.is_anew assembler numbers s.decoder counts run unit ≡ ended_behind_missing s p
+ended_stands s p assembler numbers counts run unit f n c r u =
+    let after = ended_behind_missing s p in
+    ap (λ (x : Assembly). reception s.waiting s.stray s.is_anew x numbers s.decoder counts run unit) f
+    ∙ ap (λ (x : NumbersSoFar). reception s.waiting s.stray s.is_anew after.assembler x s.decoder counts run unit) n
+    ∙ ap (λ (x : Counts). reception s.waiting s.stray s.is_anew after.assembler after.numbers s.decoder x run unit) c
+    ∙ ap (λ (x : ℕ). reception s.waiting s.stray s.is_anew after.assembler after.numbers s.decoder after.counts x unit) r
+    ∙ ap (λ (x : ℕ). reception s.waiting s.stray s.is_anew after.assembler after.numbers s.decoder after.counts s.run_limit x) u
+
+-- a step by what was taken, where none ended
+step_taken : (now : ℕ) (s new : Reception) (r : Result Bool PacketError) → IfOk r (λ took. IsDueTakenOrNone now s took new) → IfOk r (λ took. IsStepOrNone now s took new)
+step_taken now s new (Ok true) it = taken_alone it
+step_taken now s new (Ok false) it = it
+step_taken now s new (Err error) it = it
+
+pub step_follows : (now : ℕ) (s t new : Reception) (ended : Bool) (r : Result Bool PacketError) → IsEndedOrFollows now s ended t → ended ≡ false →
+    IfOk r (λ took. IsDueTakenOrNone now t took new) → IfOk r (λ took. IsStepOrNone now s took new)
+step_follows now s t new true r it is taken = absurd (let bad = is in cc)
+step_follows now s t new false r it is taken = step_taken now s new r (subst (λ (x : Reception). IfOk r (λ took. IsDueTakenOrNone now x took new)) it.1 taken)
+
+-- a step by what ended, where none was open, and by what was taken then
+pub step_both : (now : ℕ) (s t new : Reception) (r : Result Bool PacketError) → IsEndedBehindMissing now s t → t.assembler.ended ≡ [] →
+    IfOk r (λ took. IsDueTakenOrNone now t took new) → IfOk r (λ took. IsStepOrNone now s took new)
+step_both now s t new (Ok true) ended none_left it = ended_and_taken ended none_left it
+step_both now s t new (Ok false) ended none_left it =
+    let same : due_packet now t.waiting ≡ Some ended.packet = ap (λ (r : Reception). due_packet now r.waiting) ended.stands ∙ ended.due in
+    absurd (let bad = sym same ∙ it.0 in cc)
+step_both now s t new (Err error) ended none_left it = it
+
+-- whether one begins so, where it has a payload, and no access unit of its timestamp is open
+pub begins_by_number : (s : Assembly) (p : ℕ × RtpBody) → bears_nothing p.1.payload ≡ false → is_unit_at s.unit p.1.timestamp ≡ false → begins_behind_missing s p ≡ is_behind_missing s p.0
+begins_by_number s p = by (bears_nothing p.1.payload) (is_unit_at s.unit p.1.timestamp)
+  where
+    by : (a b : Bool) → a ≡ false → b ≡ false → (not a && (not b && is_behind_missing s p.0)) ≡ is_behind_missing s p.0
+    by false false e f = refl
+    by true b e f = absurd (let bad = e in cc)
+    by false true e f = absurd (let bad = f in cc)
+
+-- behind numbers that are missing none is taken at once
+pub not_at_once : (s : Reception) (number : ℕ) → is_behind_missing s.assembler number ≡ true → is_taken_at_once s number ≡ false
+not_at_once s number is = by (goes_straight s.waiting.buffer number) (is_behind_missing s.assembler number) (has_no_unit s.assembler.ended && not s.is_anew) is
+  where
+    by : (a m b : Bool) → m ≡ true → (a && (not m && b)) ≡ false
+    by false m b e = refl
+    by true true b e = refl
+    by true false b e = absurd (let bad = e in cc)
+
+-- else by what has ended and whether the stream has begun anew
+pub at_once_else : (s : Reception) (number : ℕ) → goes_straight s.waiting.buffer number ≡ true → is_behind_missing s.assembler number ≡ false → is_taken_at_once s number ≡ (has_no_unit s.assembler.ended && not s.is_anew)
+at_once_else s number = by (goes_straight s.waiting.buffer number) (is_behind_missing s.assembler number)
+  where
+    by : (a m : Bool) → a ≡ true → m ≡ false → (a && (not m && (has_no_unit s.assembler.ended && not s.is_anew))) ≡ (has_no_unit s.assembler.ended && not s.is_anew)
+    by true false e f = refl
+    by false m e f = absurd (let bad = e in cc)
+    by true true e f = absurd (let bad = f in cc)
+
+-- what is left to do: packets that wait, and before each an access unit that may end
+abbrev pub work_left : JitterState → List AccessUnitValue → ℕ
+work_left j ended = length j.buffer.held * 2 + (if has_no_unit ended then 1 else 0)
+
+-- a step leaves less
+pub step_falls : (now : ℕ) (s t : Reception) → s.assembler.ended ≡ [] → IsStep now s t → work_left t.waiting t.assembler.ended < work_left s.waiting s.assembler.ended
+step_falls now s t empty (ended_alone it has) =
+    let same : t.waiting ≡ s.waiting = ap (λ (r : Reception). r.waiting) it.stands in
+    let held = ap (λ (j : JitterState). length j.buffer.held) same in
+    rw (empty, has) (omega (arith, held))
+step_falls now s t empty (taken_alone it) = let falls = taken_falls now s t it in rw empty (at_most _ _ (has_no_unit t.assembler.ended) falls)
+step_falls now s t empty (ended_and_taken it none_left taken) =
+    let falls = taken_falls now _ t taken in
+    let same = ap (λ (r : Reception). length r.waiting.buffer.held) it.stands in
+    rw empty (at_most _ _ (has_no_unit t.assembler.ended) (falls ∙ same))
 
 -- no access unit has ended
 pub none_ended : (units : List AccessUnitValue) (has : Bool) → has ≡ not (has_no_unit units) → has ≡ false → units ≡ []

@@ -1,5 +1,5 @@
 -- Packets that wait and their arrivals, where one comes and where one goes.
-use Rattle.std.proofs.Common.{◌≡◌, ◌∙◌, ap, sym, subst, refl, ℕ, ◌+◌, ◌<◌, true, false, List, [], ◌∷◌, ◌++◌, length, Option, Some, None, arith}
+use Rattle.std.proofs.Common.{◌≡◌, ◌∙◌, ap, sym, subst, refl, ℕ, ◌+◌, ◌<◌, Bool, true, false, List, [], ◌∷◌, ◌++◌, length, Option, Some, None, arith}
 use Rattle.std.specs.Prelude.{◌==◌, slice_get}
 use Rattle.std.proofs.lemmas.Bool.Decides.{nat_tests}
 use Rattle.std.specs.Option.{unwrap_or}
@@ -7,11 +7,11 @@ use Rattle.h26x_core.specs.Sequence.{next_sequence_number, is_late}
 use Rattle.h26x_reorder.specs.Rtp.{RtpBody}
 use Rattle.h26x_reorder.specs.ReorderBuffer.{BufferState, buffer_state, due_at, put_packet, is_number_held, goes_straight, push_answer, after_push, without_first, IsHeldInOrder}
 use Rattle.h26x_reorder.specs.declared.pushed.Pushed.TheVariants as pushes
-use Rattle.h26x_reorder.proofs.BufferLemmas.{order_at, put_in_order, rest_in_order, none_held}
+use Rattle.h26x_reorder.proofs.BufferLemmas.{order_at, put_in_order, rest_in_order, none_held, held_alone}
 use Rattle.h26x_access_units.specs.declared.arrival.Arrival.{Arrival}
 use Rattle.h26x_access_units.specs.Arrival.{arrival_of, without_number, not_passed, is_first_passed, from_at, AreArrivals, IsLetGo}
 use Rattle.h26x_access_units.proofs.PassedLemmas.{one_waits, first_stays, one_kept, early_is}
-use Rattle.h26x_access_units.specs.JitterBuffer.{held_bytes, without_arrival_of}
+use Rattle.h26x_access_units.specs.JitterBuffer.{held_bytes, without_arrival_of, begun_with}
 
 -- a packet that is held is neither late nor held before
 pub held_is : (b : BufferState RtpBody) (number : ℕ) → push_answer b number ≡ pushes.Held →
@@ -81,6 +81,15 @@ came b n from since now old new p small is order kept first stands from_is items
     subst (λ (l : List Arrival). Came b.due old now p.0 n since l) (sym items)
     (subst (λ (f : ℕ). Came b.due old now p.0 n f (old ++ arrival_of p.0 now ∷ [])) (sym from_is)
     (record { order = it.order; kept = it.kept; first = it.first; waits = it.waits }))
+
+-- where the first of packets went the stream has begun
+pub begun_first : (held : List (ℕ × RtpBody)) (has_begun : Bool) (p : ℕ × RtpBody) → slice_get held 0 ≡ Some p → begun_with held has_begun ≡ true
+begun_first [] has_begun p is = absurd (let bad = is in cc)
+begun_first (q ∷ held) has_begun p is = refl
+
+-- so where one went straight
+pub begun_straight : (b : BufferState RtpBody) (has_begun : Bool) (number : ℕ) (body : RtpBody) → number < 65536 → goes_straight b number ≡ true → begun_with (after_push b (number, body)).held has_begun ≡ true
+begun_straight b has_begun number body small is = ap (λ (x : BufferState RtpBody). begun_with x.held has_begun) (held_alone b number body small is)
 
 -- what stands once the first packet went
 pub record Went (b : BufferState RtpBody) (p : ℕ × RtpBody) : Type 0 where

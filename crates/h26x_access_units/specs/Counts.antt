@@ -46,7 +46,7 @@ counted_reason c (reasons.Late n) = record c { late = count_up c.late 1 }
 counted_reason c reasons.Twice = record c { twice = count_up c.twice 1 }
 counted_reason c reason = c
 
--- packets of old numbers that were dropped
+-- packets of old numbers that were dropped, or numbers that are missing before a packet
 abbrev pub counted_dropped : Counts → ℕ → Counts
 counted_dropped c dropped = record c { lost = count_up c.lost dropped }
 

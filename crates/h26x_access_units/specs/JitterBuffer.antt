@@ -1,8 +1,8 @@
 -- Packets that wait for those before them: by a window, by time and by bytes (RFC 3550, 5.1; ours).
-use Rattle.std.specs.Prelude.{◌≡◌, ℕ, ◌+◌, ◌<◌, ◌≤◌, ◌-◌, ◌^◌, ◌==◌, nat_lt, nat_le, Bool, false, ◌||◌, ◌&&◌, not, if◌then◌else◌, List, [], ◌∷◌, ◌++◌, length, Option, Some, None, slice_get, slice_index_or}
+use Rattle.std.specs.Prelude.{◌≡◌, ℕ, ◌+◌, ◌<◌, ◌≤◌, ◌-◌, ◌^◌, ◌==◌, nat_lt, nat_le, Bool, true, false, ◌||◌, ◌&&◌, not, if◌then◌else◌, List, [], ◌∷◌, ◌++◌, length, Option, Some, None, slice_get, slice_index_or, min, is_some}
 use Rattle.h26x_core.specs.Sequence.{distance_ahead}
 use Rattle.h26x_reorder.specs.Rtp.{RtpBody, rtp_body}
-use Rattle.h26x_reorder.specs.ReorderBuffer.{BufferState, fresh_buffer, push_answer, after_push, next_packet, without_first, IsHeldInOrder}
+use Rattle.h26x_reorder.specs.ReorderBuffer.{BufferState, fresh_buffer, begun_at, push_answer, after_push, next_packet, without_first, IsHeldInOrder}
 use Rattle.h26x_access_units.specs.declared.arrival.Arrival.{Arrival}
 use Rattle.h26x_access_units.specs.declared.config.AccessUnitConfig.{AccessUnitConfig}
 use Rattle.h26x_access_units.specs.declared.pushed.Pushed.{Pushed}
@@ -11,19 +11,23 @@ use Rattle.h26x_access_units.specs.Arrival.{arrival_of, without_number, is_first
 use Rattle.h26x_access_units.specs.Pushed.{as_pushed}
 
 -- what waits: the settings, the packets in the order of their numbers, when they came, in the order
--- in which they came, and whether the stream has ended
+-- in which they came, whether the first packet of the stream went or its number is told, and whether
+-- the stream has ended
 pub record JitterState : Type 0 where
   pub config : AccessUnitConfig
   pub buffer : BufferState RtpBody
   pub arrivals : List Arrival
+  pub has_begun : Bool
   pub is_over : Bool
 
--- these four
-abbrev pub jitter_state : AccessUnitConfig → BufferState RtpBody → List Arrival → Bool → JitterState
-jitter_state config buffer arrivals is_over = record {
+-- these five
+abbrev pub jitter_state : AccessUnitConfig → BufferState RtpBody → List Arrival → Bool → Bool →
+    JitterState
+jitter_state config buffer arrivals has_begun is_over = record {
   config = config;
   buffer = buffer;
   arrivals = arrivals;
+  has_begun = has_begun;
   is_over = is_over;
 }
 
@@ -33,8 +37,19 @@ fresh_jitter config = record {
   config = config;
   buffer = fresh_buffer config.window;
   arrivals = [];
+  has_begun = false;
   is_over = false;
 }
+
+-- whether the number of the first packet may be told: none came, none is told, and the stream hasn't
+-- ended
+abbrev pub may_begin : JitterState → Bool
+may_begin j = not j.is_over && not (is_some j.buffer.due)
+
+-- the same once it is told: it is due
+abbrev pub begun_jitter : ℕ → JitterState → JitterState
+begun_jitter number j =
+    if may_begin j then record j { buffer = begun_at number j.buffer; has_begun = true } else j
 
 -- settings with this limit on the bytes that wait
 abbrev pub with_held_limit : ℕ → AccessUnitConfig → AccessUnitConfig
@@ -110,10 +125,26 @@ abbrev pub after_jitter : ℕ → JitterState → ℕ × RtpBody → Pushed → 
 after_jitter now j p pushes.Held = with_packet now j p
 after_jitter now j p answer = j
 
+-- for how long a packet waits at most: one that begins the stream for its own time
+abbrev pub longest_wait : JitterState → ℕ
+longest_wait j =
+    if j.has_begun then j.config.max_wait else min j.config.begin_wait j.config.max_wait
+
 -- whether the first packet isn't to wait: the stream has ended, more bytes wait than the limit, or the
 -- packet that waits longest has waited long enough
 abbrev pub is_pressed : ℕ → JitterState → Bool
-is_pressed now j = j.is_over || (is_past_limit j || has_waited j.config.max_wait now j.arrivals)
+is_pressed now j = j.is_over || (is_past_limit j || has_waited (longest_wait j) now j.arrivals)
+
+-- the number from which on others may be missing: of a stream that begins that of the first packet
+-- that waits
+abbrev pub awaited_number : Bool → Option ℕ → List (ℕ × RtpBody) → Option ℕ
+awaited_number true due held = due
+awaited_number false due [] = due
+awaited_number false due (p ∷ held) = Some p.0
+
+-- so of what waits
+abbrev pub awaited : JitterState → Option ℕ
+awaited j = awaited_number j.has_begun j.buffer.due j.buffer.held
 
 -- the packet that is due, if one is: the first, where it isn't to wait, where it is the one that is
 -- expected next, or where the window has passed
@@ -125,9 +156,15 @@ abbrev pub without_arrival_of : List (ℕ × RtpBody) → List Arrival → List 
 without_arrival_of [] arrivals = arrivals
 without_arrival_of (p ∷ held) arrivals = without_number p.0 arrivals
 
+-- whether the stream has begun once the first of packets went, if there is one
+abbrev pub begun_with : List (ℕ × RtpBody) → Bool → Bool
+begun_with [] has_begun = has_begun
+begun_with (p ∷ held) has_begun = true
+
 -- what waits without the first packet
 abbrev pub without_due : JitterState → JitterState
 without_due j = record j {
   buffer = without_first j.buffer;
   arrivals = without_arrival_of j.buffer.held j.arrivals;
+  has_begun = begun_with j.buffer.held j.has_begun;
 }

@@ -3,6 +3,8 @@ pub mod Pushed
 pub mod JitterBuffer
 pub mod Numbers
 pub mod Counts
+pub mod Content
+pub mod Decoder
 pub mod ReceivedAccessUnit
 pub mod Reception
 pub mod Missing

@@ -1,5 +1,5 @@
 -- The sequence numbers of the packets of access units (RFC 3550, 5.1; ours).
-use Rattle.std.specs.Prelude.{ℕ, ◌+◌, ◌-◌, ◌^◌, ◌==◌, min, Bool, true, false, if◌then◌else◌, List, [], ◌∷◌, Option, Some, None, Result, Ok, Err}
+use Rattle.std.specs.Prelude.{ℕ, ◌+◌, ◌-◌, ◌^◌, ◌==◌, min, Bool, true, false, ◌&&◌, if◌then◌else◌, List, [], ◌∷◌, Option, Some, None, Result, Ok, Err}
 use Rattle.h26x_core.specs.declared.error.PacketError.{PacketError}
 use Rattle.h26x_receiver.specs.declared.received.Received.{Received}
 use Rattle.h26x_receiver.specs.declared.received.Received.TheVariants.{Gap, TooLong, Late}
@@ -29,6 +29,7 @@ abbrev pub fresh_numbers : NumbersSoFar
 fresh_numbers = record {
   unit = None;
   marked = None;
+  has_begun = false;
   skipped_gap = 0;
   ended = None;
   ended_by_marker = None;
@@ -43,14 +44,16 @@ abbrev pub is_timestamp : Option ℕ → ℕ → Bool
 is_timestamp None timestamp = false
 is_timestamp (Some marked) timestamp = marked == timestamp
 
--- the numbers of an access unit of which a packet is the first
-abbrev pub begun_numbers : Option ℕ → ℕ × RtpBody → ℕ → AccessUnitNumbers
-begun_numbers marked p missing = record {
+-- the numbers of an access unit of which a packet is the first: it follows the one before where a
+-- packet was taken before it, and none is missing between
+abbrev pub begun_numbers : Option ℕ → Bool → ℕ × RtpBody → ℕ → AccessUnitNumbers
+begun_numbers marked has_begun p missing = record {
   timestamp = p.1.timestamp;
   first = p.0;
   last = p.0;
   missing = missing;
   continues = is_timestamp marked p.1.timestamp;
+  follows = has_begun && (missing == 0);
 }
 
 -- with a packet more
@@ -61,15 +64,16 @@ numbers_to unit p missing = record unit {
 }
 
 -- the numbers of a packet's access unit: the one that is open, where it has its timestamp
-abbrev pub numbers_with : Option AccessUnitNumbers → Option ℕ → ℕ × RtpBody → ℕ → AccessUnitNumbers
-numbers_with None marked p missing = begun_numbers marked p missing
-numbers_with (Some unit) marked p missing =
+abbrev pub numbers_with : Option AccessUnitNumbers → Option ℕ → Bool → ℕ × RtpBody → ℕ →
+    AccessUnitNumbers
+numbers_with None marked has_begun p missing = begun_numbers marked has_begun p missing
+numbers_with (Some unit) marked has_begun p missing =
     if unit.timestamp == p.1.timestamp then numbers_to unit p missing
-    else begun_numbers marked p missing
+    else begun_numbers marked has_begun p missing
 
 -- so of what is known so far
 abbrev pub unit_numbers : NumbersSoFar → ℕ × RtpBody → ℕ → AccessUnitNumbers
-unit_numbers n p missing = numbers_with n.unit n.marked p missing
+unit_numbers n p missing = numbers_with n.unit n.marked n.has_begun p missing
 
 -- the numbers of the access unit that a timestamp ends, if it is another one
 abbrev pub numbers_ended : Option AccessUnitNumbers → ℕ → Option AccessUnitNumbers
@@ -87,6 +91,7 @@ after_packet n p missing = record {
   unit = if p.1.marker then None
       else Some (unit_numbers n p (missing_sum n.skipped_gap missing));
   marked = if p.1.marker then Some p.1.timestamp else None;
+  has_begun = true;
   skipped_gap = 0;
   ended = numbers_ended n.unit p.1.timestamp;
   ended_by_marker = if p.1.marker
@@ -115,9 +120,31 @@ numbers_after expected n p (Err error) = after_gap n (missing_up_to expected p.0
 abbrev pub after_last : NumbersSoFar → NumbersSoFar
 after_last n = record fresh_numbers { ended = n.unit }
 
+-- once the access unit that is open ended behind numbers that are missing, so many: what begins then
+-- follows none
+abbrev pub after_missing : NumbersSoFar → ℕ → NumbersSoFar
+after_missing n missing = record n {
+  unit = None;
+  marked = None;
+  has_begun = false;
+  skipped_gap = missing_sum n.skipped_gap missing;
+  ended = n.unit;
+}
+
+-- once the number of the first packet is told
+abbrev pub begun_numbers_at : NumbersSoFar → NumbersSoFar
+begun_numbers_at n = record n { has_begun = true }
+
 -- those of an access unit of which no packet came
 abbrev pub numbers_of_none : AccessUnitNumbers
-numbers_of_none = record { timestamp = 0; first = 0; last = 0; missing = 0; continues = false }
+numbers_of_none = record {
+  timestamp = 0;
+  first = 0;
+  last = 0;
+  missing = 0;
+  continues = false;
+  follows = false;
+}
 
 -- those of the first access unit that ended
 abbrev pub first_of_ended : Option AccessUnitNumbers → Option AccessUnitNumbers → AccessUnitNumbers

@@ -1,9 +1,12 @@
 -- Access units as a receiver gives them out (RFC 6184, 5.1; RFC 7798, 4.1; RFC 9328, 4.1; ours).
-use Rattle.std.specs.Prelude.{ℕ, Bool, false, ◌&&◌, ◌||◌, not, if◌then◌else◌, List}
+use Rattle.std.specs.Prelude.{ℕ, Bool, List}
 use Rattle.h26x_core.specs.declared.extra.CodecExtra.{CodecExtra}
-use Rattle.h26x_core.specs.declared.extra.CodecExtra.TheVariants as extras
 use Rattle.h26x_assembler.specs.AccessUnit.{AccessUnitValue}
 use Rattle.h26x_access_units.specs.declared.numbers.AccessUnitNumbers.{AccessUnitNumbers}
+use Rattle.h26x_access_units.specs.declared.content.Content.{Content}
+use Rattle.h26x_access_units.specs.declared.decoder.DecoderState.{DecoderState}
+use Rattle.h26x_access_units.specs.Content.{content_of}
+use Rattle.h26x_access_units.specs.Decoder.{is_disposable, layer_after, tells_whole, shows, decoder_after}
 use Rattle.h26x_access_units.specs.declared.unit.ReceivedAccessUnit.{ReceivedAccessUnit}
 
 -- an access unit as it is given out, its bytes as a list
@@ -13,6 +16,7 @@ pub record ReceivedAccessUnitValue : Type 0 where
   pub extra : CodecExtra
   pub is_whole : Bool
   pub is_clean : Bool
+  pub is_disposable : Bool
   pub continues : Bool
   pub first : ℕ
   pub last : ℕ
@@ -26,36 +30,39 @@ received_unit_value unit = record {
   extra = unit.extra;
   is_whole = unit.is_whole;
   is_clean = unit.is_clean;
+  is_disposable = unit.is_disposable;
   continues = unit.continues;
   first = unit.first;
   last = unit.last;
   missing = unit.missing;
 }
 
--- whether a keyframe is told of
-abbrev pub is_keyframe : CodecExtra → Bool
-is_keyframe extras.None = false
-is_keyframe (extras.H264 extra) = extra.is_keyframe
-is_keyframe (extras.H265 extra) = extra.is_keyframe
-is_keyframe (extras.H266 extra) = extra.is_keyframe
+-- what the units of an access unit tell
+abbrev pub unit_content : Bool → AccessUnitValue → Content
+unit_content is_avc unit = content_of is_avc unit.extra unit.bytes
 
--- whether nothing is missing in an access unit, nor was since a keyframe, or one begins with it
-abbrev pub clean_with : Bool → AccessUnitValue → AccessUnitNumbers → Bool
-clean_with was_clean unit numbers = unit.is_whole
-    && (if numbers.continues then was_clean else is_keyframe unit.extra || was_clean)
+-- whether an access unit is told to be whole
+abbrev pub whole_with : DecoderState → Bool → AccessUnitValue → AccessUnitNumbers → Bool
+whole_with d is_avc unit numbers =
+    tells_whole d unit.is_whole unit.extra numbers (unit_content is_avc unit)
 
--- whether an access unit is told to be whole: it doesn't go on with another one
-abbrev pub whole_with : AccessUnitValue → AccessUnitNumbers → Bool
-whole_with unit numbers = unit.is_whole && not numbers.continues
+-- what is known of a decoder once it is given out
+abbrev pub decoder_with : DecoderState → Bool → Bool → AccessUnitValue → AccessUnitNumbers →
+    DecoderState
+decoder_with d has_sets is_avc unit numbers = decoder_after d has_sets unit.is_whole unit.extra
+    numbers (unit_content is_avc unit)
 
--- an access unit with its numbers
-abbrev pub received_unit : Bool → AccessUnitValue → AccessUnitNumbers → ReceivedAccessUnitValue
-received_unit was_clean unit numbers = record {
+-- an access unit with its numbers, as it is given out by what is known of a decoder
+abbrev pub received_unit : DecoderState → Bool → Bool → AccessUnitValue → AccessUnitNumbers →
+    ReceivedAccessUnitValue
+received_unit d has_sets is_avc unit numbers = record {
   timestamp = unit.timestamp;
   bytes = unit.bytes;
   extra = unit.extra;
-  is_whole = whole_with unit numbers;
-  is_clean = clean_with was_clean unit numbers;
+  is_whole = whole_with d is_avc unit numbers;
+  is_clean = shows (decoder_with d has_sets is_avc unit numbers) unit.is_whole;
+  is_disposable = is_disposable (layer_after d numbers (unit_content is_avc unit))
+      (unit_content is_avc unit).slice;
   continues = numbers.continues;
   first = numbers.first;
   last = numbers.last;

@@ -1,23 +1,25 @@
 -- What a receiver of packets that come in any order does (RFC 3550, 5.1; ours).
-use Rattle.std.specs.Prelude.{◌≡◌, ℕ, ◌-◌, ◌^◌, ◌==◌, Bool, true, false, ◌&&◌, not, if◌then◌else◌, List, [], ◌∷◌, length, Option, Some, None, Result, Ok, Err, MatchBool, IfOk, ◌⊎◌}
+use Rattle.std.specs.Prelude.{◌≡◌, ℕ, ◌-◌, ◌^◌, ◌==◌, Bool, true, false, ◌&&◌, not, if◌then◌else◌, List, [], ◌∷◌, length, Option, Some, None, Result, Ok, Err, MatchBool, IfOk, ◌⊎◌, is_some, ◌||◌}
 use Rattle.h26x_core.specs.declared.error.PacketError.{PacketError}
 use Rattle.h26x_core.specs.declared.error.PacketError.TheVariants.{OutOfMemory}
 use Rattle.h26x_model.specs.Receive.DepacketizerState.{DepacketizerState}
 use Rattle.h26x_receiver.specs.declared.received.Received.{Received}
-use Rattle.h26x_core.specs.Sequence.{next_sequence_number}
+use Rattle.h26x_core.specs.Sequence.{next_sequence_number, missing_count, is_late, is_expected}
 use Rattle.h26x_receiver.specs.Sequenced.{skip_answer}
 use Rattle.h26x_reorder.specs.Rtp.{RtpBody}
 use Rattle.h26x_reorder.specs.ReorderBuffer.{goes_straight}
-use Rattle.h26x_assembler.specs.AccessUnit.{AccessUnitValue, Assembly, none_open, open_assembly, IsAssemblyAnswer, is_text_given_up, after_rtp, after_unit_skip, after_pass_over, after_finishing}
+use Rattle.h26x_assembler.specs.AccessUnit.{AccessUnitValue, Assembly, none_open, open_assembly, is_unit_at, IsAssemblyAnswer, is_text_given_up, after_rtp, after_unit_skip, after_pass_over, after_finishing}
 use Rattle.h26x_access_units.specs.declared.config.AccessUnitConfig.{AccessUnitConfig}
 use Rattle.h26x_access_units.specs.declared.counts.Counts.{Counts}
+use Rattle.h26x_access_units.specs.declared.decoder.DecoderState.{DecoderState}
+use Rattle.h26x_access_units.specs.Decoder.{fresh_decoder}
 use Rattle.h26x_access_units.specs.declared.numbers.NumbersSoFar.{NumbersSoFar}
 use Rattle.h26x_access_units.specs.declared.pushed.Pushed.{Pushed}
 use Rattle.h26x_access_units.specs.declared.pushed.Pushed.TheVariants as pushes
 use Rattle.h26x_access_units.specs.Counts.{no_counts, counted_push, counted_dropped, counted_due, counted_unit, counted_reason}
-use Rattle.h26x_access_units.specs.JitterBuffer.{JitterState, is_far, jitter_answer, after_jitter, due_packet, without_due, fresh_jitter, with_held_limit, waits_for_none}
-use Rattle.h26x_access_units.specs.Numbers.{fresh_numbers, bears_nothing, numbers_after, after_last, first_ended, without_first_ended}
-use Rattle.h26x_access_units.specs.ReceivedAccessUnit.{ReceivedAccessUnitValue, received_unit, clean_with, whole_with, received_unit_value}
+use Rattle.h26x_access_units.specs.JitterBuffer.{JitterState, may_begin, begun_jitter, longest_wait, awaited, is_far, jitter_answer, after_jitter, due_packet, without_due, fresh_jitter, with_held_limit, waits_for_none}
+use Rattle.h26x_access_units.specs.Numbers.{fresh_numbers, after_missing, begun_numbers_at, bears_nothing, numbers_after, after_last, first_ended, without_first_ended}
+use Rattle.h26x_access_units.specs.ReceivedAccessUnit.{ReceivedAccessUnitValue, received_unit, decoder_with, whole_with, received_unit_value}
 use Rattle.std.specs.Option.{option_map}
 use Rattle.h26x_access_units.specs.declared.pushed.NotPushedReason.{NotPushedReason}
 use Rattle.h26x_access_units.specs.declared.unit.ReceivedAccessUnit.{ReceivedAccessUnit}
@@ -26,7 +28,7 @@ use Rattle.h26x_access_units.specs.Arrival.{deadline_of}
 
 -- what a receiver is to contracts: what waits, and the packet that waits alone; whether the stream has
 -- begun anew, so that the access unit that is open is to end; the assembler of access units, those
--- that ended and weren't given out; their numbers; whether nothing was missing since a keyframe;
+-- that ended and weren't given out; their numbers; what is known of a decoder that is given them;
 -- the counts; and the limits on an open run and on an open access unit
 pub record Reception : Type 0 where
   pub waiting : JitterState
@@ -34,21 +36,26 @@ pub record Reception : Type 0 where
   pub is_anew : Bool
   pub assembler : Assembly
   pub numbers : NumbersSoFar
-  pub is_clean : Bool
+  pub decoder : DecoderState
   pub counts : Counts
   pub run_limit : ℕ
   pub unit_limit : ℕ
 
+-- whether a list has no entry
+abbrev pub has_no_unit : List AccessUnitValue → Bool
+has_no_unit [] = true
+has_no_unit (unit ∷ units) = false
+
 -- these
 abbrev pub reception : JitterState → Option (ℕ × RtpBody) → Bool → Assembly →
-    NumbersSoFar → Bool → Counts → ℕ → ℕ → Reception
-reception waiting stray is_anew assembler numbers is_clean counts run_limit unit_limit = record {
+    NumbersSoFar → DecoderState → Counts → ℕ → ℕ → Reception
+reception waiting stray is_anew assembler numbers decoder counts run_limit unit_limit = record {
   waiting = waiting;
   stray = stray;
   is_anew = is_anew;
   assembler = assembler;
   numbers = numbers;
-  is_clean = is_clean;
+  decoder = decoder;
   counts = counts;
   run_limit = run_limit;
   unit_limit = unit_limit;
@@ -57,8 +64,19 @@ reception waiting stray is_anew assembler numbers is_clean counts run_limit unit
 -- before any packet came
 abbrev pub fresh_reception : AccessUnitConfig → DepacketizerState → Reception
 fresh_reception config state = reception (fresh_jitter config) None false
-    (open_assembly state None none_open []) fresh_numbers false no_counts config.run_limit
+    (open_assembly state None none_open []) fresh_numbers fresh_decoder no_counts config.run_limit
     config.unit_limit
+
+-- where the number of the first packet is told before one came: it is due and expected
+abbrev pub begun_reception : ℕ → Reception → Reception
+begun_reception number s =
+    if may_begin s.waiting
+    then record s {
+      waiting = begun_jitter number s.waiting;
+      assembler = record s.assembler { expected = Some number };
+      numbers = begun_numbers_at s.numbers;
+    }
+    else s
 
 -- before any packet of another sender came
 abbrev pub restarted : Reception → Reception
@@ -68,7 +86,7 @@ restarted s = record s {
   is_anew = false;
   assembler = open_assembly s.assembler.state None none_open [];
   numbers = fresh_numbers;
-  is_clean = false;
+  decoder = fresh_decoder;
 }
 
 -- whether a number is the one behind the packet that waits alone
@@ -151,6 +169,26 @@ assembly_after most limit s p (Ok answer) =
     else after_rtp most limit s p (Ok answer)
 assembly_after most limit s p (Err error) = after_pass_over s p.0
 
+-- the number that is expected for a packet that is taken: where none is, and it has a payload, its own,
+-- so that it is known of its access unit from it on whether something is missing
+abbrev pub expected_for : Option ℕ → ℕ × RtpBody → Option ℕ
+expected_for None p = if bears_nothing p.1.payload then None else Some p.0
+expected_for (Some number) p = Some number
+
+-- so of an assembler
+abbrev pub begun_for : Assembly → ℕ × RtpBody → Assembly
+begun_for s p = record s { expected = expected_for s.expected p }
+
+-- whether numbers are missing right before one that is not late, where a packet was taken
+abbrev pub is_behind_missing : Assembly → ℕ → Bool
+is_behind_missing s number = is_some s.expected
+    && (not (is_late s.expected number) && (s.is_gap || not (is_expected s.expected number)))
+
+-- whether a packet begins an access unit behind numbers that are missing
+abbrev pub begins_behind_missing : Assembly → ℕ × RtpBody → Bool
+begins_behind_missing s p = not (bears_nothing p.1.payload)
+    && (not (is_unit_at s.unit p.1.timestamp) && is_behind_missing s p.0)
+
 -- the same once it forgot that a marker ended the last access unit: what goes on with that may be
 -- known to be whole too
 abbrev pub marker_forgotten : Assembly → Assembly
@@ -160,18 +198,36 @@ marker_forgotten s = record s { closed = None }
 abbrev pub after_due : Reception → ℕ × RtpBody → Result Received PacketError → Reception
 after_due s p answer = record s {
   waiting = without_due s.waiting;
-  assembler = marker_forgotten (assembly_after s.run_limit s.unit_limit s.assembler p answer);
-  numbers = numbers_after s.assembler.expected s.numbers p answer;
-  counts = counted_due s.assembler.expected s.counts p answer
-      (is_text_given_up s.run_limit s.unit_limit s.assembler p);
+  assembler = marker_forgotten (assembly_after s.run_limit s.unit_limit (begun_for s.assembler p) p
+      answer);
+  numbers = numbers_after (expected_for s.assembler.expected p) s.numbers p answer;
+  counts = counted_due (expected_for s.assembler.expected p) s.counts p answer
+      (is_text_given_up s.run_limit s.unit_limit (begun_for s.assembler p) p);
 }
+
+-- where a packet that is due begins an access unit behind numbers that are missing: the one that is
+-- open ends, not known to be whole, and any number is next
+abbrev pub ended_behind_missing : Reception → ℕ × RtpBody → Reception
+ended_behind_missing s p = record s {
+  assembler = after_finishing s.assembler;
+  numbers = after_missing s.numbers (missing_count s.assembler.expected p.0);
+  counts = counted_dropped s.counts (missing_count s.assembler.expected p.0);
+}
+
+-- so it is where the packet that is due begins one so
+pub record IsEndedBehindMissing (now : ℕ) (s new : Reception) : Type 0 where
+  pub packet : ℕ × RtpBody
+  pub due : due_packet now s.waiting ≡ Some packet
+  pub begins : begins_behind_missing s.assembler packet ≡ true
+  pub stands : new ≡ ended_behind_missing s packet
 
 -- a packet that was due was taken, or passed over
 pub record IsDueTaken (now : ℕ) (s new : Reception) : Type 0 where
   pub packet : ℕ × RtpBody
   pub answer : Result Received PacketError
   pub due : due_packet now s.waiting ≡ Some packet
-  pub answered : IsAnswerTo s.run_limit s.assembler packet answer
+  pub follows : begins_behind_missing s.assembler packet ≡ false
+  pub answered : IsAnswerTo s.run_limit (begun_for s.assembler packet) packet answer
   pub room : answer ≡ Err OutOfMemory → ⊥
   pub stands : new ≡ after_due s packet answer
 
@@ -184,20 +240,44 @@ abbrev pub IsDueTakenOrNone : ℕ → Reception → Bool → Reception → Type 
 IsDueTakenOrNone now s took new = MatchBool took (IsDueTaken now s new)
     ((due_packet now s.waiting ≡ None) × (new ≡ s))
 
+-- a packet that is due begins no access unit behind numbers that are missing
+abbrev pub FollowsWhereDue : ℕ → Reception → Type 0
+FollowsWhereDue now s = (p : ℕ × RtpBody) → due_packet now s.waiting ≡ Some p →
+    begins_behind_missing s.assembler p ≡ false
+
+-- by whether one ended behind numbers that are missing, or all is as it was
+abbrev pub IsEndedOrFollows : ℕ → Reception → Bool → Reception → Type 0
+IsEndedOrFollows now s ended new = MatchBool ended (IsEndedBehindMissing now s new)
+    (FollowsWhereDue now s × (new ≡ s))
+
+-- Where no access unit is left that ended: one ends behind numbers that are missing; or a packet is
+-- taken; or one was to end, none was open, and the packet is taken.
+pub data IsStep (now : ℕ) (s : Reception) : Reception → Type 0 where
+  ended_alone : {t : Reception} → IsEndedBehindMissing now s t →
+      has_no_unit t.assembler.ended ≡ false → IsStep now s t
+  taken_alone : {t : Reception} → IsDueTaken now s t → IsStep now s t
+  ended_and_taken : {t u : Reception} → IsEndedBehindMissing now s t → t.assembler.ended ≡ [] →
+      IsDueTaken now t u → IsStep now s u
+
+-- by whether something was due: a step, or none is due
+abbrev pub IsStepOrNone : ℕ → Reception → Bool → Reception → Type 0
+IsStepOrNone now s took new = MatchBool took (IsStep now s new)
+    ((due_packet now s.waiting ≡ None) × (new ≡ s))
+
+-- where memory lacks all is as it was, or one ended behind numbers that are missing
+abbrev pub IsStepInPart : ℕ → Reception → Reception → Type 0
+IsStepInPart now s new = (new ≡ s) ⊎ IsEndedBehindMissing now s new
+
 -- no packet is due, unless an access unit has ended
 abbrev pub NoneIsDueUnlessEnded : ℕ → Reception → Type 0
 NoneIsDueUnlessEnded now s = s.assembler.ended ≡ [] → due_packet now s.waiting ≡ None
 
--- whether a list has no entry
-abbrev pub has_no_unit : List AccessUnitValue → Bool
-has_no_unit [] = true
-has_no_unit (unit ∷ units) = false
-
--- whether a packet that comes with this number is taken at once: it needn't wait, no access unit that
--- ended is left, and the stream hasn't begun anew
+-- whether a packet that comes with this number is taken at once: it needn't wait, nothing is known to
+-- be missing before it, no access unit that ended is left, and the stream hasn't begun anew
 abbrev pub is_taken_at_once : Reception → ℕ → Bool
 is_taken_at_once s number = goes_straight s.waiting.buffer number
-    && (has_no_unit s.assembler.ended && not s.is_anew)
+    && (not (is_behind_missing s.assembler number)
+    && (has_no_unit s.assembler.ended && not s.is_anew))
 
 -- after a packet came, at this tick, that is answered so: where it is taken at once, it is as if it had
 -- waited and was taken then
@@ -210,11 +290,14 @@ abbrev pub IsPushedIfOk : {E : Type 0} → ℕ → Reception → ℕ × RtpBody 
     Type 0
 IsPushedIfOk now s p result new = IfOk result (λ answer. IsPushed now s p answer new)
 
--- packets that were due were taken, one after the other, as long as no access unit had ended
+-- packets that were due were taken, one after the other, as long as no access unit had ended; one ends
+-- before a packet that begins another behind numbers that are missing
 pub data IsDrained (now : ℕ) (s : Reception) : Reception → Type 0 where
   none : IsDrained now s s
   more : {t u : Reception} → IsDrained now s t → t.assembler.ended ≡ [] → IsDueTaken now t u →
       IsDrained now s u
+  behind : {t u : Reception} → IsDrained now s t → t.assembler.ended ≡ [] →
+      IsEndedBehindMissing now t u → IsDrained now s u
 
 -- at the end of the stream: all that waits is due
 abbrev pub ended_reception : Reception → Reception
@@ -258,7 +341,8 @@ is_idle s = has_no_unit s.assembler.ended && (not s.is_anew && waits_for_none s.
 -- the first access unit that ended
 abbrev pub unit_given_of : Reception → List AccessUnitValue → Option ReceivedAccessUnitValue
 unit_given_of s [] = None
-unit_given_of s (unit ∷ units) = Some (received_unit s.is_clean unit (first_ended s.numbers))
+unit_given_of s (unit ∷ units) = Some (received_unit s.decoder s.waiting.config.has_sets
+    s.assembler.state.is_avc unit (first_ended s.numbers))
 
 -- so of a receiver
 abbrev pub unit_given : Reception → Option ReceivedAccessUnitValue
@@ -270,8 +354,10 @@ without_given_of s [] = s
 without_given_of s (unit ∷ units) = record s {
   assembler = record s.assembler { ended = units };
   numbers = without_first_ended s.numbers;
-  is_clean = clean_with s.is_clean unit (first_ended s.numbers);
-  counts = counted_unit s.counts (whole_with unit (first_ended s.numbers));
+  decoder = decoder_with s.decoder s.waiting.config.has_sets s.assembler.state.is_avc unit
+      (first_ended s.numbers);
+  counts = counted_unit s.counts (whole_with s.decoder s.assembler.state.is_avc unit
+      (first_ended s.numbers));
 }
 
 -- so of a receiver
@@ -297,12 +383,13 @@ GivesNext now s result new =
 
 -- the numbers that a NACK asks for: those that are missing before packets that wait (RFC 4585, 6.2.1)
 abbrev pub nack_numbers : Reception → List ℕ
-nack_numbers s = missing_numbers s.waiting.buffer.due s.waiting.buffer.held
+nack_numbers s = missing_numbers (awaited s.waiting) s.waiting.buffer.held
 
--- these are exactly those between the one that is due and the last that waits that don't wait
+-- these are exactly those between the one from which on others may be missing and the last that waits
+-- that don't wait
 abbrev pub AreExactNacks : Reception → List ℕ → Type 0
-AreExactNacks s numbers = AreExactlyMissing s.waiting.buffer.due s.waiting.buffer.held numbers
+AreExactNacks s numbers = AreExactlyMissing (awaited s.waiting) s.waiting.buffer.held numbers
 
 -- when the packet that waits longest is due at the latest
 abbrev pub next_deadline : Reception → Option ℕ
-next_deadline s = deadline_of s.waiting.config.max_wait s.waiting.arrivals
+next_deadline s = deadline_of (longest_wait s.waiting) s.waiting.arrivals

@@ -14,10 +14,16 @@ pub struct AccessUnitConfig {
     /// A packet that is missing is waited for so long at most after one behind it came, in the
     /// caller's ticks, which go round at 2^32; `u32::MAX`: by the window alone.
     pub max_wait: u32,
+    /// A packet that begins the stream, or with which it begins anew, waits for so long, and no longer
+    /// than `max_wait`, for those before it, in the caller's ticks; 0: it doesn't wait.
+    pub begin_wait: u32,
     /// How many bytes of payloads may wait. Past that none is waited for.
     pub held_limit: usize,
     /// How many bytes an open NAL unit may hold from a packet to the next.
     pub run_limit: usize,
     /// How many bytes an open access unit may hold from a packet to the next.
     pub unit_limit: usize,
+    /// Whether the decoder has the parameter sets, as from `sprop-*` of a session description, so that
+    /// it can begin with a keyframe that bears none.
+    pub has_sets: bool,
 }

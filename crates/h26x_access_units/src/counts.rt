@@ -93,7 +93,7 @@ impl Counts {
         }
     }
 
-    /// Counts packets of old numbers that are dropped.
+    /// Counts packets of old numbers that are dropped, or numbers that are missing before a packet.
     pub(crate) fn drop(&mut self, dropped: usize)
         ensures { self.new ≡ counted_dropped self.old dropped }
     {

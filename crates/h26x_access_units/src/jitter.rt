@@ -7,7 +7,7 @@ ghost use Rattle.h26x_reorder.specs.ReorderBuffer.{numbered_packet, goes_straigh
 ghost use Rattle.h26x_access_units.specs.Arrival.{deadline_of, has_waited};
 ghost use Rattle.h26x_access_units.specs.Pushed.{IsNotPushedReason, not_pushed_reason};
 ghost use Rattle.h26x_access_units.specs.Missing.{numbers_from, missing_numbers, AreExactlyMissing};
-ghost use Rattle.h26x_access_units.specs.JitterBuffer.{with_packet, newest_of, is_far, with_held_limit, fresh_jitter, held_bytes, is_past_limit, is_full, is_pressed, jitter_answer, after_jitter, due_packet, without_due, waits_for_none};
+ghost use Rattle.h26x_access_units.specs.JitterBuffer.{with_packet, newest_of, is_far, with_held_limit, fresh_jitter, held_bytes, is_past_limit, is_full, is_pressed, jitter_answer, after_jitter, longest_wait, awaited, may_begin, begun_jitter, due_packet, without_due, waits_for_none};
 
 use crate::arrival::{Arrival, from_at, let_go};
 use crate::config::AccessUnitConfig;
@@ -39,6 +39,7 @@ pub struct JitterBuffer {
     arrivals: VecDeque<Arrival>,
     from: u16,
     bytes: usize,
+    has_begun: bool,
     is_over: bool,
 }
 
@@ -50,7 +51,7 @@ impl Model for JitterBuffer {
     ghost Value = { JitterState };
 
     ghost view = { λ j. jitter_state j.config j.buffer
-        (not_passed j.buffer.due j.arrivals.items) j.is_over };
+        (not_passed j.buffer.due j.arrivals.items) j.has_begun j.is_over };
 
     ghost invariant = { λ j. IsJitterBuffer j.config j.buffer j.arrivals.items j.from j.bytes };
 }
@@ -68,6 +69,7 @@ impl JitterBuffer {
             arrivals: VecDeque::new(alloc),
             from: 0,
             bytes: 0,
+            has_begun: false,
             is_over: false,
         }
     }
@@ -250,6 +252,7 @@ impl JitterBuffer {
     {
         self.buffer.pass(number);
         self.from = number.wrapping_add(1);
+        self.has_begun = true;
     }
 
     /// Takes back a packet that doesn't wait, for its memory, as [`ReorderBuffer::give_back`] does.
@@ -266,14 +269,25 @@ impl JitterBuffer {
         self.is_over || self.bytes > self.config.held_limit || self.has_waited(now)
     }
 
+    /// For how long a packet waits at most: one that begins the stream for its own time.
+    fn longest_wait(&self) -> u32
+        ensures { result ≡ longest_wait self.now }
+    {
+        if self.has_begun || self.config.max_wait < self.config.begin_wait {
+            self.config.max_wait
+        } else {
+            self.config.begin_wait
+        }
+    }
+
     /// Whether the packet that waits longest has waited long enough.
     fn has_waited(&self, now: u32) -> bool
-        ensures { result ≡ has_waited self.now.config.max_wait now self.now.arrivals }
+        ensures { result ≡ has_waited (longest_wait self.now) now self.now.arrivals }
     {
         match self.arrivals.front() {
             Some(arrival) => {
-                let max_wait = self.config.max_wait;
-                max_wait != u32::MAX && now.wrapping_sub(arrival.at) >= max_wait
+                let longest = self.longest_wait();
+                longest != u32::MAX && now.wrapping_sub(arrival.at) >= longest
             }
             None => false,
         }
@@ -301,6 +315,7 @@ impl JitterBuffer {
             Some(packet) => {
                 self.from = let_go(&mut self.arrivals, self.from, due, packet.sequence);
                 self.bytes -= packet.payload.len();
+                self.has_begun = true;
                 Some(packet)
             }
             None => None,
@@ -316,20 +331,34 @@ impl JitterBuffer {
         }
     }
 
+    /// The number from which on others may be missing: of a stream that begins that of the first
+    /// packet that waits.
+    fn awaited(&self) -> Option<u16>
+        ensures { result ≡ awaited self.now }
+    {
+        if self.has_begun {
+            return self.buffer.due();
+        }
+        match self.buffer.first() {
+            Some(packet) => Some(packet.sequence),
+            None => self.buffer.due(),
+        }
+    }
+
     /// The numbers that are missing before packets that wait, in order, from the one that is due on:
-    /// for a NACK (RFC 4585, 6.2.1). Of a stream that begins the first of them are those of the window
-    /// before the first packet that came.
+    /// for a NACK (RFC 4585, 6.2.1). Of a stream that begins none is missing before the first packet
+    /// that waits.
     pub fn missing(&self) -> Result<Vec<u16>, AllocError>
         ensures numbers { IfOk result (λ numbers.
-            numbers.items ≡ missing_numbers self.now.buffer.due self.now.buffer.held) }
+            numbers.items ≡ missing_numbers (awaited self.now) self.now.buffer.held) }
 
         // Exactly those up to the last that waits that don't wait.
         ensures exact { IfOk result (λ numbers.
-            AreExactlyMissing self.now.buffer.due self.now.buffer.held numbers.items) }
+            AreExactlyMissing (awaited self.now) self.now.buffer.held numbers.items) }
     {
         let mut numbers = Vec::new(*self.arrivals.allocator());
-        let mut from = match self.buffer.due() {
-            Some(due) => due,
+        let mut from = match self.awaited() {
+            Some(number) => number,
             None => return Ok(numbers),
         };
         for place in 0..self.buffer.len() {
@@ -343,14 +372,38 @@ impl JitterBuffer {
     /// When a packet will have waited for as long as one may, in the caller's ticks: none where none
     /// waits, or no time is set.
     pub fn deadline(&self) -> Option<u32>
-        ensures { result ≡ deadline_of self.now.config.max_wait self.now.arrivals }
+        ensures { result ≡ deadline_of (longest_wait self.now) self.now.arrivals }
     {
         match self.arrivals.front() {
-            Some(arrival) if self.config.max_wait != u32::MAX => {
-                Some(arrival.at.wrapping_add(self.config.max_wait))
+            Some(arrival) => {
+                let longest = self.longest_wait();
+                if longest == u32::MAX {
+                    None
+                } else {
+                    Some(arrival.at.wrapping_add(longest))
+                }
             }
-            _ => None,
+            None => None,
         }
+    }
+
+    /// Has this number due, where no packet came: a peer tells the number of its first packet, as in
+    /// the RTP-Info of RTSP (RFC 2326, 12.33). The answer is whether none came, no number was told
+    /// before, and the stream hasn't ended.
+    pub fn begin_at(&mut self, number: u16) -> bool
+        ensures told { result ≡ may_begin self.old }
+        ensures after { self.new ≡ begun_jitter number self.old }
+    {
+        if self.is_over {
+            return false;
+        }
+        if self.buffer.due().is_some() {
+            return false;
+        }
+        self.buffer.begin_at(number);
+        self.from = number;
+        self.has_begun = true;
+        true
     }
 
     /// Whether no packet waits, and the stream hasn't ended.
@@ -382,6 +435,7 @@ impl JitterBuffer {
         self.buffer.restart();
         self.arrivals.clear();
         self.bytes = 0;
+        self.has_begun = false;
         self.is_over = false;
     }
 }

@@ -6,7 +6,9 @@
 mod arrival;
 mod cases;
 mod config;
+mod content;
 mod counts;
+mod decoder;
 mod jitter;
 pub mod laws;
 mod numbers;

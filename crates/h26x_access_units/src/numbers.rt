@@ -1,7 +1,7 @@
 //! The sequence numbers of the packets of access units.
 
 ghost use Rattle.std.specs.Prelude.{◌≡◌, ℕ, Option, Some, Ok};
-ghost use Rattle.h26x_access_units.specs.Numbers.{fresh_numbers, unit_numbers, numbers_ended, after_gap, after_packet, missing_told, missing_with, first_ended, without_first_ended, after_last, numbers_after};
+ghost use Rattle.h26x_access_units.specs.Numbers.{fresh_numbers, after_missing, begun_numbers_at, unit_numbers, numbers_ended, after_gap, after_packet, missing_told, missing_with, first_ended, without_first_ended, after_last, numbers_after};
 
 use h26x_receiver::Received;
 use h26x_reorder::RtpPacket;
@@ -19,6 +19,8 @@ pub struct AccessUnitNumbers {
     pub missing: u32,
     /// Whether a marker ended one of its timestamp right before it.
     pub continues: bool,
+    /// Whether its first packet follows one that was taken, with no number missing between them.
+    pub follows: bool,
 }
 
 impl AccessUnitNumbers {
@@ -29,6 +31,7 @@ impl AccessUnitNumbers {
         last: 0,
         missing: 0,
         continues: false,
+        follows: false,
     };
 }
 
@@ -39,6 +42,9 @@ pub(crate) struct NumbersSoFar {
     pub unit: Option<AccessUnitNumbers>,
     /// The timestamp of the access unit that the packet before ended by its marker.
     pub marked: Option<u32>,
+    /// Whether what comes next may follow: a packet was taken, or the first number is told, since the
+    /// beginning, or since an access unit ended behind missing numbers.
+    pub has_begun: bool,
     /// How many are missing since the last packet, before numbers that were skipped.
     pub skipped_gap: u32,
     /// Those of the access unit that another timestamp ended, until it is given out.
@@ -76,6 +82,7 @@ impl NumbersSoFar {
         NumbersSoFar {
             unit: None,
             marked: None,
+            has_begun: false,
             skipped_gap: 0,
             ended: None,
             ended_by_marker: None,
@@ -104,6 +111,7 @@ impl NumbersSoFar {
                     last: packet.sequence,
                     missing,
                     continues: self.marked == Some(packet.timestamp),
+                    follows: self.has_begun && missing == 0,
                 });
             }
         }
@@ -123,6 +131,7 @@ impl NumbersSoFar {
         let missing = self.skipped_gap.saturating_add(u32::from(missing));
         self.skipped_gap = 0;
         self.go_on(packet, missing);
+        self.has_begun = true;
         if packet.marker {
             self.marked = Some(packet.timestamp);
             self.ended_by_marker = self.unit;
@@ -145,6 +154,24 @@ impl NumbersSoFar {
         }
     }
 
+    /// The access unit that is open ended behind numbers that are missing, so many.
+    pub(crate) fn miss(&mut self, missing: u32)
+        ensures { self.new ≡ after_missing self.old missing }
+    {
+        self.ended = self.unit;
+        self.unit = None;
+        self.marked = None;
+        self.has_begun = false;
+        self.skip(missing);
+    }
+
+    /// The number of the first packet is told.
+    pub(crate) fn begin(&mut self)
+        ensures { self.new ≡ begun_numbers_at self.old }
+    {
+        self.has_begun = true;
+    }
+
     /// The stream has ended, and with it the access unit that is open.
     pub(crate) fn finish(&mut self)
         ensures { self.new ≡ after_last self.old }
@@ -152,6 +179,7 @@ impl NumbersSoFar {
         *self = NumbersSoFar {
             unit: None,
             marked: None,
+            has_begun: false,
             skipped_gap: 0,
             ended: self.unit,
             ended_by_marker: None,

@@ -1,24 +1,29 @@
 //! A receiver that takes packets as they come and gives out access units.
 
-ghost use Rattle.std.specs.Prelude.{◌≡◌, ◌^◌, ◌<◌, ◌≤◌, true, false, not, [], None, Ok, Err, IfOk, OnOk, OnErr, IfErr, length};
+ghost use Rattle.std.specs.Prelude.{◌≡◌, ◌^◌, ◌<◌, ◌≤◌, List, true, false, not, [], None, Ok, Err, IfOk, OnOk, OnErr, IfErr, length};
 ghost use Rattle.std.specs.Option.{option_map};
+ghost use Rattle.h26x_core.specs.Sequence.{missing_count};
 ghost use Rattle.h26x_receiver.specs.Sequenced.{IfTaken};
 ghost use Rattle.h26x_reorder.specs.Rtp.{rtp_body};
 ghost use Rattle.h26x_reorder.specs.ReorderBuffer.{numbered_packet};
 ghost use Rattle.h26x_access_units.specs.Pushed.{IsNotPushedReason, is_kept, not_pushed_reason};
 ghost use Rattle.h26x_access_units.specs.Counts.{counted_due};
+ghost use Rattle.h26x_access_units.specs.JitterBuffer.{may_begin};
 ghost use Rattle.h26x_assembler.specs.Assembler.{assembly_at, gives_text_up};
+ghost use Rattle.h26x_assembler.specs.AccessUnit.{is_text_given_up};
+ghost use Rattle.h26x_assembler.specs.declared.access_unit.AccessUnit.{AccessUnit};
 ghost use Rattle.h26x_access_units.specs.Numbers.{bears_nothing, numbers_after};
 ghost use Rattle.h26x_access_units.specs.ReceivedAccessUnit.{received_unit_value};
-ghost use Rattle.h26x_access_units.specs.Reception.{fresh_reception, reception_answer, has_no_unit, ended_if_anew, ended_if_over, restarted, unit_given, without_given, assembly_after, lacks_memory, marker_forgotten, is_taken_at_once, is_idle, IsAnswerTo, IsDrained, is_too_far, IsPushAnswer, IsPutAside, refused_reception, IsTakenAsDue, IsDueTakenOrNone, NoneIsDueUnlessEnded, IsPushedIfOk, ended_reception, IsDrainedInPart, GivesNext, nack_numbers, AreExactNacks, next_deadline};
+ghost use Rattle.h26x_access_units.specs.Reception.{fresh_reception, begun_reception, begun_for, expected_for, is_behind_missing, begins_behind_missing, reception_answer, has_no_unit, ended_if_anew, ended_if_over, restarted, unit_given, without_given, assembly_after, lacks_memory, marker_forgotten, is_taken_at_once, is_idle, IsAnswerTo, IsDrained, is_too_far, IsPushAnswer, IsPutAside, refused_reception, IsTakenAsDue, IsDueTakenOrNone, FollowsWhereDue, IsEndedOrFollows, IsStepOrNone, IsStepInPart, NoneIsDueUnlessEnded, IsPushedIfOk, ended_reception, IsDrainedInPart, GivesNext, nack_numbers, AreExactNacks, next_deadline};
 ghost use Rattle.h26x_access_units.specs.Limits.{StaysWithinLimits};
 
 use crate::config::AccessUnitConfig;
 use crate::counts::Counts;
+use crate::decoder::DecoderState;
 use crate::jitter::JitterBuffer;
 use crate::numbers::{NumbersSoFar, missing_with};
 use crate::pushed::{NotPushed, NotPushedReason, Pushed};
-use crate::unit::{ReceivedAccessUnit, is_keyframe};
+use crate::unit::ReceivedAccessUnit;
 use h26x_assembler::{AccessUnit, AccessUnitAssembler};
 use h26x_core::PacketError;
 use h26x_depacketizer::RunDepacketizer;
@@ -36,7 +41,7 @@ pub struct AccessUnitReceiver<D: RunDepacketizer> {
     assembler: AccessUnitAssembler<D>,
     ended: Vec<AccessUnit>,
     numbers: NumbersSoFar,
-    is_clean: bool,
+    decoder: DecoderState,
     counts: Counts,
 }
 
@@ -117,6 +122,99 @@ fn take_noted<D: RunDepacketizer>(
     }
 }
 
+/// Whether numbers are missing right before one that is not late, where a packet was taken.
+fn is_behind_missing<D: RunDepacketizer>(assembler: &AccessUnitAssembler<D>, number: u16) -> bool
+    ensures { (ended : List AccessUnit) → result
+        ≡ is_behind_missing (assembly_at D.state assembler.now ended) number }
+{
+    match assembler.packets.expected {
+        Some(expected) => {
+            number.wrapping_sub(expected) < 0x8000
+                && (assembler.unit.is_gap() || number != expected)
+        }
+        None => false,
+    }
+}
+
+/// Whether a packet begins an access unit behind numbers that are missing.
+fn begins_behind_missing<D: RunDepacketizer>(
+    assembler: &AccessUnitAssembler<D>,
+    packet: &RtpPacket<'_>,
+) -> bool
+    ensures { (ended : List AccessUnit) → result
+        ≡ begins_behind_missing (assembly_at D.state assembler.now ended) packet.now }
+{
+    if packet.payload.is_empty() {
+        return false;
+    }
+    if assembler.unit.is_at(packet.timestamp) {
+        return false;
+    }
+    is_behind_missing(assembler, packet.sequence)
+}
+
+/// How many numbers are missing before one that is not late, where another is expected, or none yet.
+fn missing_before(expected: Option<u16>, number: u16) -> u16
+    ensures { result ≡ missing_count expected number }
+{
+    match expected {
+        Some(expected) => number.wrapping_sub(expected),
+        None => 0,
+    }
+}
+
+/// Takes a packet that is due as [`take_noted`] does. Where no number is expected its own is, if it
+/// has a payload, so that it is known of its access unit from it on whether something is missing.
+fn take_begun<D: RunDepacketizer>(
+    assembler: &mut AccessUnitAssembler<D>,
+    ended: &mut Vec<AccessUnit>,
+    numbers: &mut NumbersSoFar,
+    counts: &mut Counts,
+    packet: &RtpPacket<'_>,
+) -> Result<Received, PacketError>
+    ensures answer { IsAnswerTo assembler.old.packets.run_limit
+        (begun_for (assembly_at D.state assembler.old ended.old.items) packet.now) packet.now
+        result }
+    ensures after { lacks_memory result ≡ false → assembly_at D.state assembler.new ended.new.items
+        ≡ marker_forgotten (assembly_after assembler.old.packets.run_limit assembler.old.unit_limit
+        (begun_for (assembly_at D.state assembler.old ended.old.items) packet.now) packet.now
+        result) }
+    ensures numbers { lacks_memory result ≡ false → numbers.new
+        ≡ numbers_after (expected_for assembler.old.packets.expected packet.now) numbers.old
+        packet.now result }
+    ensures counts { lacks_memory result ≡ false → counts.new
+        ≡ counted_due (expected_for assembler.old.packets.expected packet.now) counts.old
+        packet.now result (is_text_given_up assembler.old.packets.run_limit
+        assembler.old.unit_limit (begun_for (assembly_at D.state assembler.old ended.old.items)
+        packet.now) packet.now) }
+    ensures limit { assembler.new.packets.run_limit ≡ assembler.old.packets.run_limit }
+    ensures unit_limit { assembler.new.unit_limit ≡ assembler.old.unit_limit }
+    ensures kept { lacks_memory result ≡ true → assembly_at D.state assembler.new ended.new.items
+        ≡ assembly_at D.state assembler.old ended.old.items }
+    ensures kept_numbers { lacks_memory result ≡ true → numbers.new ≡ numbers.old }
+    ensures kept_counts { lacks_memory result ≡ true → counts.new ≡ counts.old }
+{
+    let expected = assembler.packets.expected;
+    assembler.packets.expected = expected_for(expected, packet);
+    let received = take_noted(assembler, ended, numbers, counts, packet);
+    if is_want_of_memory(&received) {
+        assembler.packets.expected = expected;
+    }
+    received
+}
+
+/// The number that is expected for a packet that is taken: where none is, and it has a payload, its
+/// own.
+fn expected_for(expected: Option<u16>, packet: &RtpPacket<'_>) -> Option<u16>
+    ensures { result ≡ expected_for expected packet.now }
+{
+    match expected {
+        Some(number) => Some(number),
+        None if packet.payload.is_empty() => None,
+        None => Some(packet.sequence),
+    }
+}
+
 /// What a receiver is to contracts.
 pub trait Receives: Drop {
     ghost use Rattle.h26x_access_units.specs.Reception.{Reception};
@@ -135,7 +233,7 @@ impl<D: RunDepacketizer> Receives for AccessUnitReceiver<D> {
     ghost use Rattle.h26x_access_units.specs.Reception.{reception};
 
     ghost reception = { λ r. reception r.waiting (option_map numbered_packet r.stray) r.is_anew
-        (assembly_at D.state r.assembler r.ended.items) r.numbers r.is_clean r.counts
+        (assembly_at D.state r.assembler r.ended.items) r.numbers r.decoder r.counts
         r.assembler.packets.run_limit r.assembler.unit_limit };
 
     fn counts(&self) -> Counts {
@@ -161,15 +259,15 @@ impl<D: RunDepacketizer> AccessUnitReceiver<D> {
             assembler: AccessUnitAssembler::new(alloc, packets, config.unit_limit),
             ended: Vec::new(alloc),
             numbers: NumbersSoFar::none(),
-            is_clean: false,
+            decoder: DecoderState::fresh(),
             counts: Counts::none(),
         }
     }
 
     /// Takes a packet that came at this tick, and copies it if it is to wait: the one that is due is
-    /// taken at once, where none waits and no access unit has ended that `next` hasn't given out. One
-    /// without a payload came and bears nothing. Without memory all stays as it was, and it can be
-    /// given again; one that isn't kept wants none.
+    /// taken at once, where none waits or is missing right before it, and no access unit has ended that
+    /// `next` hasn't given out. One without a payload came and bears nothing. Without memory all stays
+    /// as it was, and it can be given again; one that isn't kept wants none.
     pub fn push(&mut self, now: u32, packet: &RtpPacket<'_>) -> Result<Pushed, PacketError>
         ensures answer { let r = ⟦<Self as Receives>⟧.reception in
             IsPushAnswer (r self.old) packet.now result }
@@ -218,7 +316,14 @@ impl<D: RunDepacketizer> AccessUnitReceiver<D> {
         ensures { let r = ⟦<Self as Receives>⟧.reception in
             result ≡ is_taken_at_once (r self.now) number }
     {
-        self.waiting.goes_straight(number) && !self.has_ended() && !self.is_anew
+        if !self.waiting.goes_straight(number) {
+            return false;
+        }
+        if is_behind_missing(&self.assembler, number) {
+            return false;
+        }
+        let none_ended = !self.has_ended();
+        none_ended && !self.is_anew
     }
 
     /// Takes a packet at once, which waits no more than one that is due.
@@ -231,7 +336,7 @@ impl<D: RunDepacketizer> AccessUnitReceiver<D> {
         ensures kept { let r = ⟦<Self as Receives>⟧.reception in
             OnErr result (r self.new ≡ r self.old) }
     {
-        let received = take_noted(
+        let received = take_begun(
             &mut self.assembler,
             &mut self.ended,
             &mut self.numbers,
@@ -381,8 +486,32 @@ impl<D: RunDepacketizer> AccessUnitReceiver<D> {
         self.push(now, &packet)
     }
 
+    /// Where the packet that is due begins an access unit behind numbers that are missing, ends the one
+    /// that is open; the answer is whether it does. Without memory all stays as it was.
+    fn end_behind_missing(&mut self, now: u32) -> Result<bool, PacketError>
+        ensures ended { let r = ⟦<Self as Receives>⟧.reception in
+            IfOk result (λ ended. IsEndedOrFollows now (r self.old) ended (r self.new)) }
+        ensures memory { OnErr result (result ≡ Err PacketError.OutOfMemory) }
+        ensures kept { let r = ⟦<Self as Receives>⟧.reception in
+            OnErr result (r self.new ≡ r self.old) }
+    {
+        let packet = match self.waiting.first_due(now) {
+            Some(held) => held.packet(),
+            None => return Ok(false),
+        };
+        if !begins_behind_missing(&self.assembler, &packet) {
+            return Ok(false);
+        }
+        let missing = missing_before(self.assembler.packets.expected, packet.sequence);
+        self.assembler.finish(&mut self.ended)?;
+        self.numbers.miss(u32::from(missing));
+        self.counts.drop(usize::from(missing));
+        Ok(true)
+    }
+
     /// Takes the packet that is due, if one is, or passes over it where it is refused.
     fn take_due(&mut self, now: u32) -> Result<bool, PacketError>
+        requires { let r = ⟦<Self as Receives>⟧.reception in FollowsWhereDue now (r self.old) }
         ensures taken { let r = ⟦<Self as Receives>⟧.reception in
             IfOk result (λ took. IsDueTakenOrNone now (r self.old) took (r self.new)) }
         ensures memory { OnErr result (result ≡ Err PacketError.OutOfMemory) }
@@ -393,7 +522,7 @@ impl<D: RunDepacketizer> AccessUnitReceiver<D> {
             Some(held) => held.packet(),
             None => return Ok(false),
         };
-        let received = take_noted(
+        let received = take_begun(
             &mut self.assembler,
             &mut self.ended,
             &mut self.numbers,
@@ -423,6 +552,25 @@ impl<D: RunDepacketizer> AccessUnitReceiver<D> {
         Ok(())
     }
 
+    /// Takes the packet that is due, if one is; where that begins an access unit behind numbers that
+    /// are missing the one that is open ends first, and if there is one the packet is due still.
+    fn step(&mut self, now: u32) -> Result<bool, PacketError>
+        requires { let r = ⟦<Self as Receives>⟧.reception in (r self.old).assembler.ended ≡ [] }
+        ensures step { let r = ⟦<Self as Receives>⟧.reception in
+            IfOk result (λ took. IsStepOrNone now (r self.old) took (r self.new)) }
+        ensures memory { OnErr result (result ≡ Err PacketError.OutOfMemory) }
+        ensures kept { let r = ⟦<Self as Receives>⟧.reception in
+            OnErr result (IsStepInPart now (r self.old) (r self.new)) }
+    {
+        if !self.end_behind_missing(now)? {
+            return self.take_due(now);
+        }
+        if self.has_ended() {
+            return Ok(true);
+        }
+        self.take_due(now)
+    }
+
     /// Takes packets that are due until an access unit has ended, or none is due.
     fn drain(&mut self, now: u32) -> Result<(), PacketError>
         ensures drained { let r = ⟦<Self as Receives>⟧.reception in
@@ -431,7 +579,7 @@ impl<D: RunDepacketizer> AccessUnitReceiver<D> {
             OnOk result (NoneIsDueUnlessEnded now (r self.new)) }
         ensures memory { OnErr result (result ≡ Err PacketError.OutOfMemory) }
     {
-        while !self.has_ended() && self.take_due(now)? {}
+        while !self.has_ended() && self.step(now)? {}
         Ok(())
     }
 
@@ -472,21 +620,11 @@ impl<D: RunDepacketizer> AccessUnitReceiver<D> {
         }
         let unit = self.ended.remove(0);
         let numbers = self.numbers.give();
-        let is_whole = unit.is_whole && !numbers.continues;
-        let is_keyframe = is_keyframe(unit.extra) && !numbers.continues;
-        self.is_clean = unit.is_whole && (is_keyframe || self.is_clean);
-        self.counts.unit(is_whole);
-        Some(ReceivedAccessUnit {
-            timestamp: unit.timestamp,
-            bytes: unit.bytes,
-            extra: unit.extra,
-            is_whole,
-            is_clean: self.is_clean,
-            continues: numbers.continues,
-            first: numbers.first,
-            last: numbers.last,
-            missing: numbers.missing,
-        })
+        let is_avc = self.assembler.packets.depacketizer.is_avc();
+        let has_sets = self.waiting.config().has_sets;
+        let unit = ReceivedAccessUnit::of(&mut self.decoder, has_sets, is_avc, unit, numbers);
+        self.counts.unit(unit.is_whole);
+        Some(unit)
     }
 
     /// The next access unit, if one has ended at this tick: takes packets that are due until one ends.
@@ -535,6 +673,25 @@ impl<D: RunDepacketizer> AccessUnitReceiver<D> {
         Ok(self.give())
     }
 
+    /// Says the number of the first packet of the stream, as a peer tells it (RTP-Info of RTSP, RFC
+    /// 2326, 12.33): packets from it on are waited for, and the first access unit is known to be whole
+    /// where they came. The answer is whether it is said in time: once a packet came, a number was
+    /// said, or `finish` was called and `next` hasn't given out all, it changes nothing. It takes no
+    /// memory.
+    pub fn begin_at(&mut self, sequence: u16) -> bool
+        ensures told { let r = ⟦<Self as Receives>⟧.reception in
+            result ≡ may_begin (r self.old).waiting }
+        ensures after { let r = ⟦<Self as Receives>⟧.reception in
+            r self.new ≡ begun_reception sequence (r self.old) }
+    {
+        if !self.waiting.begin_at(sequence) {
+            return false;
+        }
+        self.assembler.packets.expected = Some(sequence);
+        self.numbers.begin();
+        true
+    }
+
     /// At the end of a stream: all that waits is due, and once it was taken the access unit that is
     /// open ends, not known to be whole. `next` gives all of it out, and then any number is the next.
     pub fn finish(&mut self)
@@ -555,7 +712,7 @@ impl<D: RunDepacketizer> AccessUnitReceiver<D> {
         self.assembler.restart();
         self.ended.clear();
         self.numbers = NumbersSoFar::none();
-        self.is_clean = false;
+        self.decoder = DecoderState::fresh();
     }
 
     /// Takes back an access unit that was given out, for its memory: a later one is written there.
@@ -566,8 +723,7 @@ impl<D: RunDepacketizer> AccessUnitReceiver<D> {
     }
 
     /// The numbers that are missing before packets that wait and still could come, in order: for a NACK
-    /// (RFC 4585, 6.2.1). Of a stream that begins the first of them are those of the window before the
-    /// first packet that came, which may never have been sent.
+    /// (RFC 4585, 6.2.1). Of a stream that begins none is missing before the first packet that waits.
     pub fn missing(&self) -> Result<Vec<u16>, PacketError>
         ensures numbers { let r = ⟦<Self as Receives>⟧.reception in
             IfOk result (λ numbers. numbers.items ≡ nack_numbers (r self.now)) }

@@ -1,8 +1,12 @@
 //! Access units as a receiver gives them out.
 
 ghost use Rattle.std.specs.Prelude.{◌≡◌};
-ghost use Rattle.h26x_access_units.specs.ReceivedAccessUnit.{is_keyframe};
+ghost use Rattle.h26x_assembler.specs.AccessUnit.{access_unit_value};
+ghost use Rattle.h26x_access_units.specs.ReceivedAccessUnit.{received_unit_value, received_unit, decoder_with};
 
+use crate::content::content_of;
+use crate::decoder::DecoderState;
+use crate::numbers::AccessUnitNumbers;
 use h26x_assembler::AccessUnit;
 use h26x_core::CodecExtra;
 
@@ -16,12 +20,19 @@ pub struct ReceivedAccessUnit {
     pub bytes: Vec<u8>,
     /// What is told of these; `CodecExtra::None` where there is none.
     pub extra: CodecExtra,
-    /// Whether it is known that nothing of it is missing.
+    /// Whether nothing of it is missing: all of it came from the packet on that follows the one before,
+    /// or from a delimiter on. The first since the receiver was made or restarted is taken for whole
+    /// from a VPS on, of H.264 and H.266 from an SPS on: whether something came before isn't known.
     pub is_whole: bool,
-    /// Whether nothing was missing since a keyframe of which nothing is missing, or in that: a decoder
-    /// that began there can go on. Where something is missing it is false until the next such keyframe.
-    /// One that goes on with another can be clean, though it isn't known to be whole.
+    /// Whether a decoder can show it: nothing of it is missing, nor was since a keyframe with which a
+    /// decoder can begin, or it is one, which came from its first slice on, with its parameter sets in
+    /// it or before it in order. Pictures that are disposable may be missing in part; parameter sets
+    /// that are lost with them aren't noticed. RASL pictures behind a CRA with which a decoder begins,
+    /// which it passes over, are clean too.
     pub is_clean: bool,
+    /// Whether no other picture refers to its own: where something is missing in it, those after it
+    /// can be clean.
+    pub is_disposable: bool,
     /// Whether a marker ended one of its timestamp right before it, as where a peer sets the marker on
     /// each slice. It isn't known to be whole then.
     pub continues: bool,
@@ -34,6 +45,37 @@ pub struct ReceivedAccessUnit {
 }
 
 impl ReceivedAccessUnit {
+    /// An access unit with its numbers, by what is known of a decoder, and then with it.
+    pub(crate) fn of(
+        decoder: &mut DecoderState,
+        has_sets: bool,
+        is_avc: bool,
+        unit: AccessUnit,
+        numbers: AccessUnitNumbers,
+    ) -> Self
+        ensures unit { received_unit_value result
+            ≡ received_unit decoder.old has_sets is_avc (access_unit_value unit) numbers }
+        ensures decoder { decoder.new
+            ≡ decoder_with decoder.old has_sets is_avc (access_unit_value unit) numbers }
+    {
+        let content = content_of(is_avc, unit.extra, &unit.bytes);
+        let before = *decoder;
+        let after = before.after(has_sets, unit.is_whole, unit.extra, numbers, content);
+        *decoder = after;
+        ReceivedAccessUnit {
+            timestamp: unit.timestamp,
+            bytes: unit.bytes,
+            extra: unit.extra,
+            is_whole: before.tells_whole(unit.is_whole, unit.extra, numbers, content),
+            is_clean: after.shows(unit.is_whole),
+            is_disposable: before.is_disposable(numbers, content),
+            continues: numbers.continues,
+            first: numbers.first,
+            last: numbers.last,
+            missing: numbers.missing,
+        }
+    }
+
     /// The access unit alone.
     pub(crate) fn into_access_unit(self) -> AccessUnit {
         AccessUnit {
@@ -42,17 +84,5 @@ impl ReceivedAccessUnit {
             extra: self.extra,
             is_whole: self.is_whole,
         }
-    }
-}
-
-/// Whether a keyframe is told of.
-pub(crate) fn is_keyframe(extra: CodecExtra) -> bool
-    ensures { result ≡ is_keyframe extra }
-{
-    match extra {
-        CodecExtra::None => false,
-        CodecExtra::H264(extra) => extra.is_keyframe,
-        CodecExtra::H265(extra) => extra.is_keyframe,
-        CodecExtra::H266(extra) => extra.is_keyframe,
     }
 }

@@ -268,9 +268,17 @@ impl OpenAccessUnit {
         }
     }
 
+    /// Whether packets are missing right before the numbers that were skipped last.
+    #[inline]
+    pub fn is_gap(&self) -> bool
+        ensures { result ≡ self.now.is_gap }
+    {
+        self.is_gap
+    }
+
     /// Whether one is open that has this timestamp.
     #[inline]
-    pub(crate) fn is_at(&self, timestamp: u32) -> bool
+    pub fn is_at(&self, timestamp: u32) -> bool
         ensures { result ≡ is_unit_at self.now.unit timestamp }
     {
         match &self.unit {

@@ -20,9 +20,11 @@ units_config config = record {
   window = config.window;
   far = config.far_away;
   max_wait = config.max_wait;
+  begin_wait = config.begin_wait;
   held_limit = config.held_limit;
   run_limit = config.run_limit;
   unit_limit = config.unit_limit;
+  has_sets = config.has_sets;
 }
 
 -- the codec of a receiver with these settings, or why there is none

@@ -1,11 +1,11 @@
 //! The calls of a receiver of access units, of packets as a network brings them.
 
-ghost use Rattle.std.specs.Prelude.{◌≡◌, ◌≢◌, ◌⊎◌, ◌<◌, ℕ, [], true, false, Some, None, Ok, Err, length};
+ghost use Rattle.std.specs.Prelude.{◌≡◌, ◌≢◌, ◌⊎◌, ◌<◌, ℕ, [], true, false, if◌then◌else◌, Some, None, Ok, Err, length};
 ghost use Rattle.h26x_model.specs.Where.{Where};
 ghost use Rattle.h26x_codec.specs.declared.codec.Codec.{Codec};
 ghost use Rattle.h26x_reorder.specs.Rtp.{rtp_body};
 ghost use Rattle.h26x_endpoint.specs.EndpointStates.{is_access_units, endpoint_units, endpoint_deadline, endpoint_missing, place_units};
-ghost use Rattle.h26x_handles.specs.UnitsState.{UnitsState, units_finished, units_restarted, IsOutOfMemory};
+ghost use Rattle.h26x_handles.specs.UnitsState.{UnitsState, is_begun_in_time, units_begun, units_finished, units_restarted, IsOutOfMemory};
 ghost use Rattle.h26x_codes.specs.Codes.{ok, out_of_memory, wrong_end};
 ghost use Rattle.h26x_codes.specs.Copies.{with_first};
 ghost use Rattle.h26x_c.specs.AccessUnits.{config_codec_or_code, fresh_units_with, units_config, counts_told, TellsPush, IsPushedTo, IsNextOf};
@@ -29,10 +29,12 @@ use std::alloc::Global;
 pub struct Config {
     pub codec: u32,
     pub max_wait: u32,
+    pub begin_wait: u32,
     pub window: u16,
     pub far_away: u16,
     pub numbers: bool,
     pub avc: bool,
+    pub has_sets: bool,
     pub held_limit: usize,
     pub run_limit: usize,
     pub unit_limit: usize,
@@ -64,9 +66,11 @@ fn settings(config: &Config) -> AccessUnitConfig
         window: config.window,
         far: config.far_away,
         max_wait: config.max_wait,
+        begin_wait: config.begin_wait,
         held_limit: config.held_limit,
         run_limit: config.run_limit,
         unit_limit: config.unit_limit,
+        has_sets: config.has_sets,
     }
 }
 
@@ -263,6 +267,30 @@ pub extern "C" fn h26x_access_units_missing(
             }
             Err(_) => OUT_OF_MEMORY,
         },
+        _ => WRONG_END,
+    }
+}
+
+/// Says the number of the first packet of the stream.
+#[unsafe(no_mangle)]
+pub extern "C" fn h26x_access_units_begin_at(
+    u: &mut Handle,
+    sequence: u16,
+    in_time: &mut u32,
+) -> u32
+    ensures wrong { is_access_units u.old.value ≡ false → (result ≡ wrong_end)
+        × (u.new.value ≡ u.old.value) }
+    ensures kept { is_access_units u.old.value ≡ false → in_time.new ≡ in_time.old }
+    ensures begun { Where (endpoint_units u.old.value)
+        (λ it. (result ≡ ok) × (endpoint_units u.new.value ≡ Some (units_begun sequence it))) }
+    ensures told { Where (endpoint_units u.old.value)
+        (λ it. in_time.new ≡ (if is_begun_in_time it then 1 else 0)) }
+{
+    match u.get_mut() {
+        Endpoint::AccessUnits(it) => {
+            *in_time = u32::from(it.begin_at(sequence));
+            OK
+        }
         _ => WRONG_END,
     }
 }

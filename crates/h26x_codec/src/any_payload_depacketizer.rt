@@ -295,6 +295,10 @@ impl RunDepacketizer for AnyPayloadDepacketizer {
         formats::formats_meet_the_facts();
     }
 
+    fn is_avc(&self) -> bool {
+        self.is_avc
+    }
+
     fn run_len(&self) -> usize {
         self.run.len()
     }

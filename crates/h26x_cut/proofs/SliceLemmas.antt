@@ -1,10 +1,10 @@
 -- Start codes by place, and the units behind them.
-use Rattle.std.proofs.Common.{◌≡◌, ℕ, zero, suc, ◌+◌, ◌-◌, ◌<◌, ◌≤◌, min, true, false, List, [], ◌∷◌, ◌++◌, refl, sym, ap, ◌∙◌, arith, get_or, drop, take, length, add-one, drop-cons, append_assoc, Some, None}
+use Rattle.std.proofs.Common.{◌≡◌, ℕ, zero, suc, ◌+◌, ◌-◌, ◌<◌, ◌≤◌, min, true, false, cond, List, [], ◌∷◌, ◌++◌, refl, sym, ap, ◌∙◌, arith, get_or, drop, take, length, add-one, drop-cons, append_assoc, Some, None}
 use Rattle.std.specs.Prelude.{filter}
 use Rattle.std.proofs.Math.Seq.{take-suc}
 use Rattle.std.proofs.lemmas.List.{append-nil, length-drop, length-take, drop-drop, get_or-drop, take-append-drop, take_all}
 use Rattle.h26x_cut.specs.declared.ZeroRule.{ZeroRule}
-use Rattle.h26x_cut.specs.Cutting.{begins_code, cut_at, cut_of, trimmed_by, trimmed, without_zeros, without_zero, trimmed_but_last, units_of_segments, units_of}
+use Rattle.h26x_cut.specs.Cutting.{begins_code, behind_first_code, cut_at, cut_of, trimmed_by, trimmed, without_zeros, without_zero, trimmed_but_last, units_of_segments, units_of}
 use Rattle.h26x_cut.specs.Slices.{IsFirstCode, units_behind}
 use Rattle.h26x_core.specs.ByteStream.{is_not_empty}
 use Rattle.h26x_cut.proofs.CuttingLemmas.{begins_with, without_zero_of}
@@ -220,3 +220,38 @@ one_taken (b ∷ xs) zero within same =
 one_taken (b ∷ xs) (suc count) within same =
     let one : min (suc count) 1 ≡ 1 = omega arith in
     ap (λ n. take (length (b ∷ xs) - n) (b ∷ xs)) one ∙ zero_off (b ∷ xs) (omega arith) (last_is_zero (b ∷ xs) (suc count) (omega arith) (omega arith) same)
+
+-- where none begins nothing stands behind one
+pub none_behind : (bytes : List ℕ) → IsFirstCode bytes None → behind_first_code bytes ≡ None
+none_behind [] is = refl
+none_behind (b ∷ bytes) is = elim (begins_code (b ∷ bytes)) as (λ t. begins_code (b ∷ bytes) ≡ t → cut_at t b (cut_of bytes) ≡ (b ∷ bytes, []) → cond t (Some (drop 2 bytes)) (behind_first_code bytes) ≡ None) [
+  | true ↦ λ e cut. absurd (let bad = ap (λ (x : List ℕ × List (List ℕ)). x.1) cut in cc)
+  | false ↦ λ e cut.
+      let first : (cut_of bytes).0 ≡ bytes = ap (λ (x : List ℕ × List (List ℕ)). drop 1 x.0) cut in
+      let others : (cut_of bytes).1 ≡ [] = ap (λ (x : List ℕ × List (List ℕ)). x.1) cut in
+      none_behind bytes (ap (λ (x : List ℕ). (x, (cut_of bytes).1)) first ∙ ap (λ (x : List (List ℕ)). (bytes, x)) others)
+] refl is
+
+-- what stands behind the first one, by its place
+pub some_behind : (bytes : List ℕ) (place : ℕ) → IsFirstCode bytes (Some place) → behind_first_code bytes ≡ Some (drop (place + 3) bytes)
+some_behind [] place is = absurd (let long = is.0 in omega (arith, long))
+some_behind (b ∷ bytes) place is = elim (begins_code (b ∷ bytes)) as (λ t. begins_code (b ∷ bytes) ≡ t →
+    cut_at t b (cut_of bytes) ≡ (take place (b ∷ bytes), (cut_of (drop (place + 3) (b ∷ bytes))).0 ∷ (cut_of (drop (place + 3) (b ∷ bytes))).1) →
+    cond t (Some (drop 2 bytes)) (behind_first_code bytes) ≡ Some (drop (place + 3) (b ∷ bytes))) [
+      | true ↦ λ e cut. at_once place (ap (λ (x : List ℕ × List (List ℕ)). x.0) cut)
+      | false ↦ λ e cut. later place is.0 cut (λ k at. some_behind bytes k at)
+    ] refl is.1
+  where
+    at_once : (place : ℕ) → [] ≡ take place (b ∷ bytes) → Some (drop 2 bytes) ≡ Some (drop (place + 3) (b ∷ bytes))
+    at_once zero none = refl
+    at_once (suc place) none = absurd (let bad = none in cc)
+
+    later : (place : ℕ) → place + 3 ≤ length (b ∷ bytes) → ◌≡◌ {A = List ℕ × List (List ℕ)} (b ∷ (cut_of bytes).0, (cut_of bytes).1) (take place (b ∷ bytes), (cut_of (drop (place + 3) (b ∷ bytes))).0 ∷ (cut_of (drop (place + 3) (b ∷ bytes))).1) →
+        ((k : ℕ) → IsFirstCode bytes (Some k) → behind_first_code bytes ≡ Some (drop (k + 3) bytes)) → behind_first_code bytes ≡ Some (drop (place + 3) (b ∷ bytes))
+    later zero long cut rest = absurd (let bad = ap (λ (x : List ℕ × List (List ℕ)). x.0) cut in cc)
+    later (suc place) long cut rest =
+        let first : (cut_of bytes).0 ≡ take place bytes = ap (λ (x : List ℕ × List (List ℕ)). drop 1 x.0) cut in
+        let one_more : suc place + 3 ≡ suc (place + 3) = omega arith in
+        let same : drop (suc place + 3) (b ∷ bytes) ≡ drop (place + 3) bytes = ap (λ (k : ℕ). drop k (b ∷ bytes)) one_more in
+        let others : (cut_of bytes).1 ≡ (cut_of (drop (place + 3) bytes)).0 ∷ (cut_of (drop (place + 3) bytes)).1 = ap (λ (x : List ℕ × List (List ℕ)). x.1) cut ∙ ap (λ (r : List ℕ). (cut_of r).0 ∷ (cut_of r).1) same in
+        rest place (omega (arith, long), ap (λ (x : List ℕ). (x, (cut_of bytes).1)) first ∙ ap (λ (x : List (List ℕ)). (take place bytes, x)) others) ∙ ap (λ (r : List ℕ). Some r) (sym same)

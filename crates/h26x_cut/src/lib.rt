@@ -5,12 +5,14 @@
 mod behind;
 mod blocks;
 mod cases;
+mod codes;
 pub mod laws;
 mod marks;
 mod portable;
 mod search;
 mod slices;
 
+pub use codes::behind_code;
 pub use slices::{UnitSlices, next_unit, units};
 
 /// How many zeros before its mark, `01`, a start code takes (Annex B of H.264, H.265 and H.266).

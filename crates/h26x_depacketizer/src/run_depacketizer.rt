@@ -36,6 +36,10 @@ pub trait RunDepacketizer: Depacketizer {
     fn meets_the_facts(&self)
         ensures { IsPayloadFormat (state self.now).format };
 
+    /// Whether it writes units behind their lengths, in the place of start codes (AVC form).
+    fn is_avc(&self) -> bool
+        ensures { result ≡ (state self.now).is_avc };
+
     /// How many bytes the open run holds; none where none is open.
     fn run_len(&self) -> usize
         ensures { result ≡ run_len (state self.now).run };
@@ -145,6 +149,10 @@ impl<C: PacketReader, S: Shows<C>> RunDepacketizer for PayloadDepacketizer<C, S>
 
     fn meets_the_facts(&self) {
         C::format_meets_the_facts();
+    }
+
+    fn is_avc(&self) -> bool {
+        self.is_avc
     }
 
     fn run_len(&self) -> usize {

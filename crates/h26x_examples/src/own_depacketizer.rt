@@ -63,6 +63,10 @@ impl RunDepacketizer for CountingDepacketizer {
         self.depacketizer.meets_the_facts();
     }
 
+    fn is_avc(&self) -> bool {
+        self.depacketizer.is_avc
+    }
+
     fn run_len(&self) -> usize {
         self.depacketizer.run_len()
     }

@@ -4,7 +4,7 @@ use Rattle.std.specs.Prelude.{◌&&◌, nat_le, MatchOption}
 use Rattle.std.proofs.lemmas.Bool.Decides.{nat_tests}
 use Rattle.h26x_access_units.specs.JitterBuffer.{due_packet}
 use Rattle.h26x_access_units.specs.ReceivedAccessUnit.{ReceivedAccessUnitValue}
-use Rattle.h26x_access_units.specs.Reception.{Reception, has_no_unit, IsDrained, none, more, ended_if_anew, IsNext}
+use Rattle.h26x_access_units.specs.Reception.{Reception, has_no_unit, IsDrained, none, more, behind, ended_if_anew, IsNext}
 use Rattle.h26x_handles.specs.UnitsState.{UnitsState, units_state, unit_told, unit_without_room, buffer_with_unit, next_answer, IsNextGiven}
 use Rattle.h26x_handles.specs.declared.access_units.NextAnswer.{NextAnswer}
 use Rattle.h26x_handles.specs.declared.access_units.NextAnswer.TheVariants as answers
@@ -73,6 +73,9 @@ none_taken : (now : ℕ) (s t : Reception) → IsDrained now s t → due_packet 
 none_taken now s t none idle = refl
 none_taken now s u (more {t} before empty taken) idle =
     absurd (let due : due_packet now t.waiting ≡ Some taken.packet = taken.due in
+    let same : due_packet now t.waiting ≡ None = ap (λ (r : Reception). due_packet now r.waiting) (none_taken now s t before idle) ∙ idle in cc)
+none_taken now s u (behind {t} before empty ended) idle =
+    absurd (let due : due_packet now t.waiting ≡ Some ended.packet = ended.due in
     let same : due_packet now t.waiting ≡ None = ap (λ (r : Reception). due_packet now r.waiting) (none_taken now s t before idle) ∙ idle in cc)
 
 -- a stream that hasn't begun anew

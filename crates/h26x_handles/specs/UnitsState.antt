@@ -5,9 +5,10 @@ use Rattle.h26x_access_units.specs.declared.config.AccessUnitConfig.{AccessUnitC
 use Rattle.h26x_access_units.specs.declared.pushed.Pushed.{Pushed}
 use Rattle.h26x_access_units.specs.declared.pushed.Pushed.TheVariants as pushes
 use Rattle.h26x_access_units.specs.Arrival.{deadline_of}
+use Rattle.h26x_access_units.specs.JitterBuffer.{may_begin, longest_wait, awaited}
 use Rattle.h26x_access_units.specs.Missing.{missing_numbers}
 use Rattle.h26x_access_units.specs.ReceivedAccessUnit.{ReceivedAccessUnitValue}
-use Rattle.h26x_access_units.specs.Reception.{Reception, fresh_reception, reception_answer, restarted, ended_if_anew, IsPushed, IsDrained, IsNext}
+use Rattle.h26x_access_units.specs.Reception.{Reception, fresh_reception, begun_reception, reception_answer, restarted, ended_if_anew, IsPushed, IsDrained, IsNext}
 use Rattle.h26x_codec.specs.Codec.{codec_format}
 use Rattle.h26x_codec.specs.declared.codec.Codec.{Codec}
 use Rattle.h26x_reorder.specs.Rtp.{RtpBody}
@@ -81,6 +82,7 @@ unit_told unit = record {
   extra = extra_number unit.extra;
   is_whole = unit.is_whole;
   is_clean = unit.is_clean;
+  is_disposable = unit.is_disposable;
   continues = unit.continues;
 }
 
@@ -133,12 +135,20 @@ next_numbers (answers.Written unit) told = (ok, unit)
 -- when it is to be asked again at the latest, if packets wait
 abbrev pub units_deadline : UnitsState → Option ℕ
 units_deadline it =
-    deadline_of it.reception.waiting.config.max_wait it.reception.waiting.arrivals
+    deadline_of (longest_wait it.reception.waiting) it.reception.waiting.arrivals
 
 -- the numbers that are missing before packets that wait
 abbrev pub units_missing : UnitsState → List ℕ
 units_missing it =
-    missing_numbers it.reception.waiting.buffer.due it.reception.waiting.buffer.held
+    missing_numbers (awaited it.reception.waiting) it.reception.waiting.buffer.held
+
+-- whether the number of the first packet may be told
+abbrev pub is_begun_in_time : UnitsState → Bool
+is_begun_in_time it = may_begin it.reception.waiting
+
+-- once it is told: it is due
+abbrev pub units_begun : ℕ → UnitsState → UnitsState
+units_begun number it = units_with_reception (begun_reception number it.reception) it
 
 -- at the end of the stream: all that waits is due
 abbrev pub units_finished : UnitsState → UnitsState

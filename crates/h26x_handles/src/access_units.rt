@@ -4,7 +4,7 @@
 ghost use Rattle.std.specs.Prelude.{◌≡◌, ◌<◌, ◌≤◌, ◌^◌, [], false, None, Err, IfOk, OnErr, length};
 ghost use Rattle.h26x_access_units.specs.ReceivedAccessUnit.{received_unit_value};
 ghost use Rattle.h26x_reorder.specs.Rtp.{rtp_body};
-ghost use Rattle.h26x_handles.specs.UnitsState.{units_codec_or_code, fresh_access_units, pushed_numbers, unit_told, next_answer, buffer_with_unit, unit_without_room, units_push_answer, IsUnitsPushed, IsUnitGiven, IsOutOfMemory, next_numbers, units_deadline, units_missing, units_finished, units_restarted};
+ghost use Rattle.h26x_handles.specs.UnitsState.{units_codec_or_code, fresh_access_units, pushed_numbers, unit_told, next_answer, buffer_with_unit, unit_without_room, units_push_answer, IsUnitsPushed, IsUnitGiven, IsOutOfMemory, next_numbers, units_deadline, units_missing, is_begun_in_time, units_begun, units_finished, units_restarted};
 ghost use Rattle.h26x_codes.specs.Copies.{with_first};
 
 use h26x_access_units::{
@@ -29,6 +29,7 @@ pub struct UnitTold {
     pub extra: u8,
     pub is_whole: bool,
     pub is_clean: bool,
+    pub is_disposable: bool,
     pub continues: bool,
 }
 
@@ -98,6 +99,7 @@ fn told_of(unit: &ReceivedAccessUnit) -> UnitTold
         extra: number_of(unit.extra),
         is_whole: unit.is_whole,
         is_clean: unit.is_clean,
+        is_disposable: unit.is_disposable,
         continues: unit.continues,
     }
 }
@@ -244,6 +246,15 @@ impl AccessUnitEndpoint {
     {
         let numbers = self.receiver.missing()?;
         Ok(copy_first(&numbers, to))
+    }
+
+    /// Says the number of the first packet of the stream; the answer is whether none came, no number
+    /// was told before, and the stream hasn't ended.
+    pub fn begin_at(&mut self, sequence: u16) -> bool
+        ensures told { result ≡ is_begun_in_time (units_state_of self.old) }
+        ensures after { units_state_of self.new ≡ units_begun sequence (units_state_of self.old) }
+    {
+        self.receiver.begin_at(sequence)
     }
 
     /// At the end of a stream: all that waits is due, and then the open access unit ends.

@@ -33,6 +33,13 @@ OfWindow window holds = 0 < window → window ≤ 2 ^ 14 → holds
 abbrev pub fresh_buffer : {A : Type 0} → ℕ → BufferState A
 fresh_buffer window = buffer_state window None []
 
+-- a buffer for which the number of the first packet is told: it is due, where no packet came
+abbrev pub begun_at : {A : Type 0} → ℕ → BufferState A → BufferState A
+begun_at number b = elim b.due [
+  | None ↦ buffer_state b.window (Some number) b.held
+  | Some due ↦ b
+]
+
 -- the number that is due when a packet comes: where it is the first, the first of the window that ends
 -- with it, since those sent before it may still come
 abbrev pub due_at : ℕ → Option ℕ → ℕ → ℕ

@@ -3,7 +3,7 @@
 ghost use Rattle.std.specs.Prelude.{◌≡◌, ◌+◌, ◌^◌, ◌<◌, ◌≤◌, ◌==◌, if◌then◌else◌, true, false, ℕ, Ok, None, IfOk, IfErr, OnOk, OnErr, is_some, length, slice_get, slice_index_or};
 ghost use Rattle.std.specs.Option.{option_map};
 ghost use Rattle.h26x_reorder.specs.Rtp.{RtpBody};
-ghost use Rattle.h26x_reorder.specs.ReorderBuffer.{BufferState, numbered_packet, fresh_buffer, goes_straight, push_answer, after_push, next_packet, without_first};
+ghost use Rattle.h26x_reorder.specs.ReorderBuffer.{BufferState, numbered_packet, fresh_buffer, begun_at, goes_straight, push_answer, after_push, next_packet, without_first};
 ghost use Rattle.h26x_reorder.specs.ReorderBuffer as spec;
 
 use crate::order::NumberOrder;
@@ -187,6 +187,14 @@ impl ReorderBuffer {
         ensures { result ≡ self.now.due }
     {
         self.held.due()
+    }
+
+    /// Has this number due, where no packet came: a peer tells the number of its first packet, as in
+    /// the RTP-Info of RTSP (RFC 2326, 12.33). Once one came nothing changes.
+    pub fn begin_at(&mut self, number: u16)
+        ensures { self.new ≡ begun_at number self.old }
+    {
+        self.held.begin_at(number);
     }
 
     /// The first of the packets held, which stays: one that is taken elsewhere, where memory may lack,

@@ -5,7 +5,7 @@ ghost use Rattle.std.specs.Option.{option_map};
 ghost use Rattle.h26x_core.specs.Sequence.{distance_ahead};
 ghost use Rattle.h26x_reorder.specs.Rtp.{RtpBody};
 ghost use Rattle.h26x_reorder.specs.NumberOrder.{IsPlaceOf, IsSearchResult};
-ghost use Rattle.h26x_reorder.specs.ReorderBuffer.{fresh_buffer, goes_straight, push_answer, after_push, next_packet, without_first, AreHeldInOrder};
+ghost use Rattle.h26x_reorder.specs.ReorderBuffer.{fresh_buffer, begun_at, goes_straight, push_answer, after_push, next_packet, without_first, AreHeldInOrder};
 
 use crate::numbered::Numbered;
 use crate::parted::Parted;
@@ -72,6 +72,15 @@ impl<T: Numbered> NumberOrder<T> {
         ensures { result ≡ self.now.due }
     {
         self.due
+    }
+
+    /// Has this number due, where no packet came.
+    pub(crate) fn begin_at(&mut self, number: u16)
+        ensures { self.new ≡ begun_at number self.old }
+    {
+        if self.due.is_none() {
+            self.due = Some(number);
+        }
     }
 
     /// The first packet.

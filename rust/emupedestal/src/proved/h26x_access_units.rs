@@ -5,7 +5,9 @@
 //! and a limit on bytes before an assembler.
 mod arrival;
 mod config;
+mod content;
 mod counts;
+mod decoder;
 mod jitter;
 mod numbers;
 mod pushed;

@@ -84,7 +84,7 @@ impl Counts {
         }
     }
 
-    /// Counts packets of old numbers that are dropped.
+    /// Counts packets of old numbers that are dropped, or numbers that are missing before a packet.
     pub(crate) fn drop(&mut self, dropped: usize) {
         self.lost = self.lost.saturating_add(dropped as u64);
     }

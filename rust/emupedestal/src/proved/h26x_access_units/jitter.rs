@@ -33,6 +33,7 @@ pub struct JitterBuffer {
     arrivals: VecDeque<Arrival>,
     from: u16,
     bytes: usize,
+    has_begun: bool,
     is_over: bool,
 }
 
@@ -45,6 +46,7 @@ impl JitterBuffer {
             arrivals: VecDeque::new(),
             from: 0,
             bytes: 0,
+            has_begun: false,
             is_over: false,
         }
     }
@@ -186,6 +188,7 @@ impl JitterBuffer {
     pub(crate) fn pass(&mut self, number: u16) {
         self.buffer.pass(number);
         self.from = number.wrapping_add(1);
+        self.has_begun = true;
     }
 
     /// Takes back a packet that doesn't wait, for its memory, as [`ReorderBuffer::give_back`] does.
@@ -198,12 +201,21 @@ impl JitterBuffer {
         self.is_over || self.bytes > self.config.held_limit || self.has_waited(now)
     }
 
+    /// For how long a packet waits at most: one that begins the stream for its own time.
+    fn longest_wait(&self) -> u32 {
+        if self.has_begun || self.config.max_wait < self.config.begin_wait {
+            self.config.max_wait
+        } else {
+            self.config.begin_wait
+        }
+    }
+
     /// Whether the packet that waits longest has waited long enough.
     fn has_waited(&self, now: u32) -> bool {
         match self.arrivals.front() {
             Some(arrival) => {
-                let max_wait = self.config.max_wait;
-                max_wait != u32::MAX && now.wrapping_sub(arrival.at) >= max_wait
+                let longest = self.longest_wait();
+                longest != u32::MAX && now.wrapping_sub(arrival.at) >= longest
             }
             None => false,
         }
@@ -226,6 +238,7 @@ impl JitterBuffer {
             Some(packet) => {
                 self.from = let_go(&mut self.arrivals, self.from, due, packet.sequence);
                 self.bytes -= packet.payload.len();
+                self.has_begun = true;
                 Some(packet)
             }
             None => None,
@@ -239,13 +252,25 @@ impl JitterBuffer {
         }
     }
 
+    /// The number from which on others may be missing: of a stream that begins that of the first
+    /// packet that waits.
+    fn awaited(&self) -> Option<u16> {
+        if self.has_begun {
+            return self.buffer.due();
+        }
+        match self.buffer.first() {
+            Some(packet) => Some(packet.sequence),
+            None => self.buffer.due(),
+        }
+    }
+
     /// The numbers that are missing before packets that wait, in order, from the one that is due on:
-    /// for a NACK (RFC 4585, 6.2.1). Of a stream that begins the first of them are those of the window
-    /// before the first packet that came.
+    /// for a NACK (RFC 4585, 6.2.1). Of a stream that begins none is missing before the first packet
+    /// that waits.
     pub(crate) fn missing(&self) -> Result<Vec<u16>, AllocError> {
         let mut numbers = Vec::new();
-        let mut from = match self.buffer.due() {
-            Some(due) => due,
+        let mut from = match self.awaited() {
+            Some(number) => number,
             None => return Ok(numbers),
         };
         for place in 0..self.buffer.len() {
@@ -260,11 +285,32 @@ impl JitterBuffer {
     /// waits, or no time is set.
     pub fn deadline(&self) -> Option<u32> {
         match self.arrivals.front() {
-            Some(arrival) if self.config.max_wait != u32::MAX => {
-                Some(arrival.at.wrapping_add(self.config.max_wait))
+            Some(arrival) => {
+                let longest = self.longest_wait();
+                if longest == u32::MAX {
+                    None
+                } else {
+                    Some(arrival.at.wrapping_add(longest))
+                }
             }
-            _ => None,
+            None => None,
         }
+    }
+
+    /// Has this number due, where no packet came: a peer tells the number of its first packet, as in
+    /// the RTP-Info of RTSP (RFC 2326, 12.33). The answer is whether none came, no number was told
+    /// before, and the stream hasn't ended.
+    pub fn begin_at(&mut self, number: u16) -> bool {
+        if self.is_over {
+            return false;
+        }
+        if self.buffer.due().is_some() {
+            return false;
+        }
+        self.buffer.begin_at(number);
+        self.from = number;
+        self.has_begun = true;
+        true
     }
 
     /// Whether no packet waits, and the stream hasn't ended.
@@ -288,6 +334,7 @@ impl JitterBuffer {
         self.buffer.restart();
         self.arrivals.clear();
         self.bytes = 0;
+        self.has_begun = false;
         self.is_over = false;
     }
 }

@@ -18,6 +18,8 @@ pub struct AccessUnitNumbers {
     pub missing: u32,
     /// Whether a marker ended one of its timestamp right before it.
     pub continues: bool,
+    /// Whether its first packet follows one that was taken, with no number missing between them.
+    pub follows: bool,
 }
 
 impl AccessUnitNumbers {
@@ -28,6 +30,7 @@ impl AccessUnitNumbers {
         last: 0,
         missing: 0,
         continues: false,
+        follows: false,
     };
 }
 
@@ -38,6 +41,9 @@ pub(crate) struct NumbersSoFar {
     pub unit: Option<AccessUnitNumbers>,
     /// The timestamp of the access unit that the packet before ended by its marker.
     pub marked: Option<u32>,
+    /// Whether what comes next may follow: a packet was taken, or the first number is told, since the
+    /// beginning, or since an access unit ended behind missing numbers.
+    pub has_begun: bool,
     /// How many are missing since the last packet, before numbers that were skipped.
     pub skipped_gap: u32,
     /// Those of the access unit that another timestamp ended, until it is given out.
@@ -69,6 +75,7 @@ impl NumbersSoFar {
         NumbersSoFar {
             unit: None,
             marked: None,
+            has_begun: false,
             skipped_gap: 0,
             ended: None,
             ended_by_marker: None,
@@ -92,6 +99,7 @@ impl NumbersSoFar {
                     last: packet.sequence,
                     missing,
                     continues: self.marked == Some(packet.timestamp),
+                    follows: self.has_begun && missing == 0,
                 });
             }
         }
@@ -107,6 +115,7 @@ impl NumbersSoFar {
         let missing = self.skipped_gap.saturating_add(u32::from(missing));
         self.skipped_gap = 0;
         self.go_on(packet, missing);
+        self.has_begun = true;
         if packet.marker {
             self.marked = Some(packet.timestamp);
             self.ended_by_marker = self.unit;
@@ -126,11 +135,26 @@ impl NumbersSoFar {
         }
     }
 
+    /// The access unit that is open ended behind numbers that are missing, so many.
+    pub(crate) fn miss(&mut self, missing: u32) {
+        self.ended = self.unit;
+        self.unit = None;
+        self.marked = None;
+        self.has_begun = false;
+        self.skip(missing);
+    }
+
+    /// The number of the first packet is told.
+    pub(crate) fn begin(&mut self) {
+        self.has_begun = true;
+    }
+
     /// The stream has ended, and with it the access unit that is open.
     pub(crate) fn finish(&mut self) {
         *self = NumbersSoFar {
             unit: None,
             marked: None,
+            has_begun: false,
             skipped_gap: 0,
             ended: self.unit,
             ended_by_marker: None,

@@ -4,10 +4,11 @@
 
 use crate::proved::h26x_access_units::config::AccessUnitConfig;
 use crate::proved::h26x_access_units::counts::Counts;
+use crate::proved::h26x_access_units::decoder::DecoderState;
 use crate::proved::h26x_access_units::jitter::JitterBuffer;
 use crate::proved::h26x_access_units::numbers::{NumbersSoFar, missing_with};
 use crate::proved::h26x_access_units::pushed::{NotPushed, NotPushedReason, Pushed};
-use crate::proved::h26x_access_units::unit::{ReceivedAccessUnit, is_keyframe};
+use crate::proved::h26x_access_units::unit::ReceivedAccessUnit;
 use crate::proved::h26x_assembler::{AccessUnit, AccessUnitAssembler};
 use crate::proved::h26x_core::PacketError;
 use crate::proved::h26x_depacketizer::RunDepacketizer;
@@ -25,7 +26,7 @@ pub struct AccessUnitReceiver<D: RunDepacketizer> {
     assembler: AccessUnitAssembler<D>,
     ended: Vec<AccessUnit>,
     numbers: NumbersSoFar,
-    is_clean: bool,
+    decoder: DecoderState,
     counts: Counts,
 }
 
@@ -74,6 +75,67 @@ fn take_noted<D: RunDepacketizer>(
     }
 }
 
+/// Whether numbers are missing right before one that is not late, where a packet was taken.
+fn is_behind_missing<D: RunDepacketizer>(assembler: &AccessUnitAssembler<D>, number: u16) -> bool {
+    match assembler.packets.expected {
+        Some(expected) => {
+            number.wrapping_sub(expected) < 0x8000
+                && (assembler.unit.is_gap() || number != expected)
+        }
+        None => false,
+    }
+}
+
+/// Whether a packet begins an access unit behind numbers that are missing.
+fn begins_behind_missing<D: RunDepacketizer>(
+    assembler: &AccessUnitAssembler<D>,
+    packet: &RtpPacket<'_>,
+) -> bool {
+    if packet.payload.is_empty() {
+        return false;
+    }
+    if assembler.unit.is_at(packet.timestamp) {
+        return false;
+    }
+    is_behind_missing(assembler, packet.sequence)
+}
+
+/// How many numbers are missing before one that is not late, where another is expected, or none yet.
+fn missing_before(expected: Option<u16>, number: u16) -> u16 {
+    match expected {
+        Some(expected) => number.wrapping_sub(expected),
+        None => 0,
+    }
+}
+
+/// Takes a packet that is due as [`take_noted`] does. Where no number is expected its own is, if it
+/// has a payload, so that it is known of its access unit from it on whether something is missing.
+fn take_begun<D: RunDepacketizer>(
+    assembler: &mut AccessUnitAssembler<D>,
+    ended: &mut Vec<AccessUnit>,
+    numbers: &mut NumbersSoFar,
+    counts: &mut Counts,
+    packet: &RtpPacket<'_>,
+) -> Result<Received, PacketError> {
+    let expected = assembler.packets.expected;
+    assembler.packets.expected = expected_for(expected, packet);
+    let received = take_noted(assembler, ended, numbers, counts, packet);
+    if is_want_of_memory(&received) {
+        assembler.packets.expected = expected;
+    }
+    received
+}
+
+/// The number that is expected for a packet that is taken: where none is, and it has a payload, its
+/// own.
+fn expected_for(expected: Option<u16>, packet: &RtpPacket<'_>) -> Option<u16> {
+    match expected {
+        Some(number) => Some(number),
+        None if packet.payload.is_empty() => None,
+        None => Some(packet.sequence),
+    }
+}
+
 /// What a receiver is to contracts.
 pub trait Receives {
     /// What it has counted.
@@ -98,15 +160,15 @@ impl<D: RunDepacketizer> AccessUnitReceiver<D> {
             assembler: AccessUnitAssembler::new(packets, config.unit_limit),
             ended: Vec::new(),
             numbers: NumbersSoFar::none(),
-            is_clean: false,
+            decoder: DecoderState::fresh(),
             counts: Counts::none(),
         }
     }
 
     /// Takes a packet that came at this tick, and copies it if it is to wait: the one that is due is
-    /// taken at once, where none waits and no access unit has ended that `next` hasn't given out. One
-    /// without a payload came and bears nothing. Without memory all stays as it was, and it can be
-    /// given again; one that isn't kept wants none.
+    /// taken at once, where none waits or is missing right before it, and no access unit has ended that
+    /// `next` hasn't given out. One without a payload came and bears nothing. Without memory all stays
+    /// as it was, and it can be given again; one that isn't kept wants none.
     pub fn try_push(&mut self, now: u32, packet: &RtpPacket<'_>) -> Result<Pushed, PacketError> {
         if self.takes_at_once(packet.sequence) {
             self.take_at_once(packet)?;
@@ -128,12 +190,19 @@ impl<D: RunDepacketizer> AccessUnitReceiver<D> {
 
     /// Whether a packet with this number is taken at once.
     fn takes_at_once(&self, number: u16) -> bool {
-        self.waiting.goes_straight(number) && !self.has_ended() && !self.is_anew
+        if !self.waiting.goes_straight(number) {
+            return false;
+        }
+        if is_behind_missing(&self.assembler, number) {
+            return false;
+        }
+        let none_ended = !self.has_ended();
+        none_ended && !self.is_anew
     }
 
     /// Takes a packet at once, which waits no more than one that is due.
     fn take_at_once(&mut self, packet: &RtpPacket<'_>) -> Result<(), PacketError> {
-        let received = take_noted(
+        let received = take_begun(
             &mut self.assembler,
             &mut self.ended,
             &mut self.numbers,
@@ -230,13 +299,30 @@ impl<D: RunDepacketizer> AccessUnitReceiver<D> {
         self.try_push(now, &packet)
     }
 
+    /// Where the packet that is due begins an access unit behind numbers that are missing, ends the one
+    /// that is open; the answer is whether it does. Without memory all stays as it was.
+    fn end_behind_missing(&mut self, now: u32) -> Result<bool, PacketError> {
+        let packet = match self.waiting.first_due(now) {
+            Some(held) => held.packet(),
+            None => return Ok(false),
+        };
+        if !begins_behind_missing(&self.assembler, &packet) {
+            return Ok(false);
+        }
+        let missing = missing_before(self.assembler.packets.expected, packet.sequence);
+        self.assembler.finish(&mut self.ended)?;
+        self.numbers.miss(u32::from(missing));
+        self.counts.drop(usize::from(missing));
+        Ok(true)
+    }
+
     /// Takes the packet that is due, if one is, or passes over it where it is refused.
     fn take_due(&mut self, now: u32) -> Result<bool, PacketError> {
         let packet = match self.waiting.first_due(now) {
             Some(held) => held.packet(),
             None => return Ok(false),
         };
-        let received = take_noted(
+        let received = take_begun(
             &mut self.assembler,
             &mut self.ended,
             &mut self.numbers,
@@ -260,9 +346,21 @@ impl<D: RunDepacketizer> AccessUnitReceiver<D> {
         Ok(())
     }
 
+    /// Takes the packet that is due, if one is; where that begins an access unit behind numbers that
+    /// are missing the one that is open ends first, and if there is one the packet is due still.
+    fn step(&mut self, now: u32) -> Result<bool, PacketError> {
+        if !self.end_behind_missing(now)? {
+            return self.take_due(now);
+        }
+        if self.has_ended() {
+            return Ok(true);
+        }
+        self.take_due(now)
+    }
+
     /// Takes packets that are due until an access unit has ended, or none is due.
     fn drain(&mut self, now: u32) -> Result<(), PacketError> {
-        while !self.has_ended() && self.take_due(now)? {}
+        while !self.has_ended() && self.step(now)? {}
         Ok(())
     }
 
@@ -289,21 +387,11 @@ impl<D: RunDepacketizer> AccessUnitReceiver<D> {
         }
         let unit = self.ended.remove(0);
         let numbers = self.numbers.give();
-        let is_whole = unit.is_whole && !numbers.continues;
-        let is_keyframe = is_keyframe(unit.extra) && !numbers.continues;
-        self.is_clean = unit.is_whole && (is_keyframe || self.is_clean);
-        self.counts.unit(is_whole);
-        Some(ReceivedAccessUnit {
-            timestamp: unit.timestamp,
-            bytes: unit.bytes,
-            extra: unit.extra,
-            is_whole,
-            is_clean: self.is_clean,
-            continues: numbers.continues,
-            first: numbers.first,
-            last: numbers.last,
-            missing: numbers.missing,
-        })
+        let is_avc = self.assembler.packets.depacketizer.is_avc();
+        let has_sets = self.waiting.config().has_sets;
+        let unit = ReceivedAccessUnit::of(&mut self.decoder, has_sets, is_avc, unit, numbers);
+        self.counts.unit(unit.is_whole);
+        Some(unit)
     }
 
     /// The next access unit, if one has ended at this tick: takes packets that are due until one ends.
@@ -332,6 +420,20 @@ impl<D: RunDepacketizer> AccessUnitReceiver<D> {
         Ok(self.give())
     }
 
+    /// Says the number of the first packet of the stream, as a peer tells it (RTP-Info of RTSP, RFC
+    /// 2326, 12.33): packets from it on are waited for, and the first access unit is known to be whole
+    /// where they came. The answer is whether it is said in time: once a packet came, a number was
+    /// said, or `finish` was called and `next` hasn't given out all, it changes nothing. It takes no
+    /// memory.
+    pub fn begin_at(&mut self, sequence: u16) -> bool {
+        if !self.waiting.begin_at(sequence) {
+            return false;
+        }
+        self.assembler.packets.expected = Some(sequence);
+        self.numbers.begin();
+        true
+    }
+
     /// At the end of a stream: all that waits is due, and once it was taken the access unit that is
     /// open ends, not known to be whole. `next` gives all of it out, and then any number is the next.
     pub fn finish(&mut self) {
@@ -347,7 +449,7 @@ impl<D: RunDepacketizer> AccessUnitReceiver<D> {
         self.assembler.restart();
         self.ended.clear();
         self.numbers = NumbersSoFar::none();
-        self.is_clean = false;
+        self.decoder = DecoderState::fresh();
     }
 
     /// Takes back an access unit that was given out, for its memory: a later one is written there.
@@ -356,8 +458,7 @@ impl<D: RunDepacketizer> AccessUnitReceiver<D> {
     }
 
     /// The numbers that are missing before packets that wait and still could come, in order: for a NACK
-    /// (RFC 4585, 6.2.1). Of a stream that begins the first of them are those of the window before the
-    /// first packet that came, which may never have been sent.
+    /// (RFC 4585, 6.2.1). Of a stream that begins none is missing before the first packet that waits.
     pub fn missing(&self) -> Result<Vec<u16>, PacketError> {
         Ok(self.waiting.missing()?)
     }

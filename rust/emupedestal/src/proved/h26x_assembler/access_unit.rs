@@ -210,9 +210,15 @@ impl OpenAccessUnit {
         }
     }
 
+    /// Whether packets are missing right before the numbers that were skipped last.
+    #[inline]
+    pub fn is_gap(&self) -> bool {
+        self.is_gap
+    }
+
     /// Whether one is open that has this timestamp.
     #[inline]
-    pub(crate) fn is_at(&self, timestamp: u32) -> bool {
+    pub fn is_at(&self, timestamp: u32) -> bool {
         match &self.unit {
             Some(unit) => unit.timestamp == timestamp,
             None => false,

@@ -167,6 +167,14 @@ impl Depacketizer for AnyDepacketizer {
 }
 
 impl RunDepacketizer for AnyDepacketizer {
+    fn is_avc(&self) -> bool {
+        match self {
+            AnyDepacketizer::H264(depacketizer) => depacketizer.is_avc,
+            AnyDepacketizer::H265(depacketizer) => depacketizer.is_avc,
+            AnyDepacketizer::H266(depacketizer) => depacketizer.is_avc,
+        }
+    }
+
     fn run_len(&self) -> usize {
         match self {
             AnyDepacketizer::H264(it) => it.run_len(),

@@ -161,6 +161,10 @@ impl Depacketizer for AnyPayloadDepacketizer {
 }
 
 impl RunDepacketizer for AnyPayloadDepacketizer {
+    fn is_avc(&self) -> bool {
+        self.is_avc
+    }
+
     fn run_len(&self) -> usize {
         self.run.len()
     }

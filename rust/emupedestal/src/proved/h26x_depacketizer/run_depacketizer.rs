@@ -16,6 +16,9 @@ use crate::proved::h26x_depacketizer::sink::UnitSink;
 ///
 /// An implementation names its state, itself with another run, and itself once it has taken a packet.
 pub trait RunDepacketizer: Depacketizer {
+    /// Whether it writes units behind their lengths, in the place of start codes (AVC form).
+    fn is_avc(&self) -> bool;
+
     /// How many bytes the open run holds; none where none is open.
     fn run_len(&self) -> usize;
 
@@ -61,6 +64,10 @@ pub fn remove_run<D: RunDepacketizer>(depacketizer: &mut D) -> OpenRun {
 }
 
 impl<C: PacketReader, S: Shows<C>> RunDepacketizer for PayloadDepacketizer<C, S> {
+    fn is_avc(&self) -> bool {
+        self.is_avc
+    }
+
     fn run_len(&self) -> usize {
         self.run_len()
     }

@@ -150,6 +150,12 @@ impl ReorderBuffer {
         self.held.due()
     }
 
+    /// Has this number due, where no packet came: a peer tells the number of its first packet, as in
+    /// the RTP-Info of RTSP (RFC 2326, 12.33). Once one came nothing changes.
+    pub fn begin_at(&mut self, number: u16) {
+        self.held.begin_at(number);
+    }
+
     /// The first of the packets held, which stays: one that is taken elsewhere, where memory may lack,
     /// is looked at here and popped once it was taken.
     pub fn first(&self) -> Option<&HeldPacket> {

@@ -46,6 +46,13 @@ impl<T: Numbered> NumberOrder<T> {
         self.due
     }
 
+    /// Has this number due, where no packet came.
+    pub(crate) fn begin_at(&mut self, number: u16) {
+        if self.due.is_none() {
+            self.due = Some(number);
+        }
+    }
+
     /// The first packet.
     #[inline]
     pub(crate) fn first(&self) -> Option<&T> {

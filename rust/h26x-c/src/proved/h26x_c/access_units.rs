@@ -20,10 +20,12 @@ use core::mem::MaybeUninit;
 pub struct Config {
     pub codec: u32,
     pub max_wait: u32,
+    pub begin_wait: u32,
     pub window: u16,
     pub far_away: u16,
     pub numbers: bool,
     pub avc: bool,
+    pub has_sets: bool,
     pub held_limit: usize,
     pub run_limit: usize,
     pub unit_limit: usize,
@@ -53,9 +55,11 @@ fn settings(config: &Config) -> AccessUnitConfig {
         window: config.window,
         far: config.far_away,
         max_wait: config.max_wait,
+        begin_wait: config.begin_wait,
         held_limit: config.held_limit,
         run_limit: config.run_limit,
         unit_limit: config.unit_limit,
+        has_sets: config.has_sets,
     }
 }
 
@@ -201,6 +205,21 @@ pub fn h26x_access_units_missing(
             }
             Err(_) => OUT_OF_MEMORY,
         },
+        _ => WRONG_END,
+    }
+}
+
+/// Says the number of the first packet of the stream.
+pub fn h26x_access_units_begin_at(
+    u: &mut Handle,
+    sequence: u16,
+    in_time: &mut MaybeUninit<u32>,
+) -> u32 {
+    match u.get_mut() {
+        Endpoint::AccessUnits(it) => {
+            in_time.write(u32::from(it.begin_at(sequence)));
+            OK
+        }
         _ => WRONG_END,
     }
 }

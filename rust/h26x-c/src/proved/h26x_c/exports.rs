@@ -136,6 +136,23 @@ pub unsafe extern "C" fn h26x_access_units_missing(
 }
 
 #[unsafe(no_mangle)]
+pub unsafe extern "C" fn h26x_access_units_begin_at(
+    u: *mut Handle,
+    sequence: u16,
+    in_time: *mut u32,
+) -> u32 {
+    let mut no_in_time = MaybeUninit::uninit();
+    // SAFETY: a caller owes what the header says.
+    unsafe {
+        super::access_units::h26x_access_units_begin_at(
+            pointers::lent(u),
+            sequence,
+            pointers::output(in_time, &mut no_in_time),
+        )
+    }
+}
+
+#[unsafe(no_mangle)]
 pub unsafe extern "C" fn h26x_access_units_finish(u: *mut Handle) -> u32 {
     // SAFETY: a caller owes what the header says.
     unsafe { super::access_units::h26x_access_units_finish(pointers::lent(u)) }

@@ -27,6 +27,7 @@ pub struct UnitTold {
     pub extra: u8,
     pub is_whole: bool,
     pub is_clean: bool,
+    pub is_disposable: bool,
     pub continues: bool,
 }
 
@@ -88,6 +89,7 @@ fn told_of(unit: &ReceivedAccessUnit) -> UnitTold {
         extra: number_of(unit.extra),
         is_whole: unit.is_whole,
         is_clean: unit.is_clean,
+        is_disposable: unit.is_disposable,
         continues: unit.continues,
     }
 }
@@ -175,6 +177,12 @@ impl AccessUnitEndpoint {
     pub fn missing(&self, to: &mut [u16]) -> Result<usize, PacketError> {
         let numbers = self.receiver.missing()?;
         Ok(copy_first(&numbers, to))
+    }
+
+    /// Says the number of the first packet of the stream; the answer is whether none came, no number
+    /// was told before, and the stream hasn't ended.
+    pub fn begin_at(&mut self, sequence: u16) -> bool {
+        self.receiver.begin_at(sequence)
     }
 
     /// At the end of a stream: all that waits is due, and then the open access unit ends.

@@ -2,9 +2,9 @@ use Rattle.std.proofs.Common.{rules, ◌≡◌, ◌∙◌, ◌<◌, ◌≤◌, �
 use Rattle.std.proofs.lemmas.List.{append-nil, drop_all}
 use Rattle.h26x_reorder.specs.Rtp.{RtpBody, rtp_body}
 use Rattle.h26x_reorder.specs.ReorderBuffer.{IsHeldInOrder}
-use Rattle.h26x_access_units.specs.JitterBuffer.{JitterState}
+use Rattle.h26x_access_units.specs.JitterBuffer.{JitterState, awaited}
 use Rattle.h26x_access_units.specs.Missing.{missing_before, missing_numbers}
-use Rattle.h26x_access_units.proofs.ExactLemmas.{exact_of}
+use Rattle.h26x_access_units.proofs.ExactLemmas.{awaited_in_order, exact_of}
 use Rattle.h26x_access_units.proofs.MissingLemmas.{up_to}
 use Rattle.h26x_access_units.proofs.jitter.JitterBuffer.missing.Goals as goal
 
@@ -18,18 +18,19 @@ loop-place-preserved c =
 
 pub returns-clause-exact : goal.returns-clause-exact
 returns-clause-exact c =
-    let now = c.args.self.now.buffer in
+    let now = c.args.self.now in
     let held = c.self.inside.buffer.held in
     let from = c.loop-place.from in
     let numbers = c.loop-place.numbers.items in
     let end : length held ≤ c.loop-place.place = omega arith in
-    let due : c.self.inside.buffer.due ≡ Some c.in-Some.due = search rules in
+    let from_is : awaited now ≡ Some c.in-Some.number = search rules in
     let fresh : c.new-numbers.result.items ≡ [] = search rules in
-    let is : numbers ≡ missing_numbers now.due now.held =
+    let is : numbers ≡ missing_numbers (awaited now) now.buffer.held =
     sym (append-nil numbers)
     ∙ sym (ap (λ (l : List (ℕ × RtpBody)). numbers ++ missing_before from l) (drop_all c.loop-place.place held end))
     ∙ sym c.loop-place.invariant
-    ∙ ap (λ (l : List ℕ). l ++ missing_before c.in-Some.due held) fresh
-    ∙ ap (λ (d : Option ℕ). missing_numbers d held) (sym due)
-    ∙ ap (λ (j : JitterState). missing_numbers j.buffer.due j.buffer.held) c.self.view_is in
-    exact_of now.due now.held numbers (subst (λ (j : JitterState). IsHeldInOrder j.buffer.due j.buffer.held) c.self.view_is c.self.invariant.order) is
+    ∙ ap (λ (l : List ℕ). l ++ missing_before c.in-Some.number held) fresh
+    ∙ ap (λ (d : Option ℕ). missing_numbers d held) (sym from_is)
+    ∙ ap (λ (j : JitterState). missing_numbers (awaited now) j.buffer.held) c.self.view_is in
+    let order = subst (λ (j : JitterState). IsHeldInOrder j.buffer.due j.buffer.held) c.self.view_is c.self.invariant.order in
+    exact_of (awaited now) now.buffer.held numbers (awaited_in_order now.has_begun now.buffer.due now.buffer.held order) is

@@ -11,7 +11,7 @@ use Rattle.h26x_access_units.proofs.receiver.AccessUnitReceiver.push.Goals as go
 pub returns-then-takes_at_once-clause-bounded : goal.returns-then-takes_at_once-clause-bounded
 returns-then-takes_at_once-clause-bounded g c =
     let old = c.args.self.now in
-    let s = reception old.waiting (option_map numbered_packet old.stray) old.is_anew (assembly_at g.D.RunDepacketizer.state old.assembler old.ended.items) old.numbers old.is_clean old.counts old.assembler.packets.run_limit old.assembler.unit_limit in
+    let s = reception old.waiting (option_map numbered_packet old.stray) old.is_anew (assembly_at g.D.RunDepacketizer.state old.assembler old.ended.items) old.numbers old.decoder old.counts old.assembler.packets.run_limit old.assembler.unit_limit in
     let p = c.args.packet.now in
     let small : p.0 < 65536 = search rules in
     let len : length p.1.payload < 18446744073709551616 = search rules in
@@ -22,5 +22,5 @@ returns-then-takes_at_once-clause-bounded g c =
 pub returns-clause-bounded : goal.returns-clause-bounded
 returns-clause-bounded g c =
     let old = c.args.self.now in
-    let s = reception old.waiting (option_map numbered_packet old.stray) old.is_anew (assembly_at g.D.RunDepacketizer.state old.assembler old.ended.items) old.numbers old.is_clean old.counts old.assembler.packets.run_limit old.assembler.unit_limit in
+    let s = reception old.waiting (option_map numbered_packet old.stray) old.is_anew (assembly_at g.D.RunDepacketizer.state old.assembler old.ended.items) old.numbers old.decoder old.counts old.assembler.packets.run_limit old.assembler.unit_limit in
     far_within c.args.now s _ c.args.packet.now c.push_aside.result c.push_aside.ensures.answer c.push_aside.ensures.after c.push_aside.ensures.kept

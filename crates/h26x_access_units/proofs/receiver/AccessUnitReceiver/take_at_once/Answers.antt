@@ -6,16 +6,16 @@ use Rattle.h26x_assembler.specs.AccessUnit.{access_unit_value, open_assembly}
 use Rattle.h26x_access_units.specs.declared.pushed.Pushed.TheVariants as pushes
 use Rattle.h26x_access_units.specs.JitterBuffer.{with_packet, without_due}
 use Rattle.h26x_access_units.specs.Reception.{reception, lacks_memory, after_reception, is_taken_at_once}
-use Rattle.h26x_access_units.proofs.ReceptionLemmas.{due_stands, straight_is_due, at_once}
+use Rattle.h26x_access_units.proofs.ReceptionLemmas.{due_stands, straight_is_due, at_once, at_once_follows}
 use Rattle.h26x_access_units.proofs.receiver.AccessUnitReceiver.take_at_once.Goals as goal
 
 pub returns-clause-taken : goal.returns-clause-taken
 returns-clause-taken g c = λ now.
     let old = c.args.self.now in
     let state = g.D.RunDepacketizer.state in
-    let it = c.take_noted-received in
+    let it = c.take_begun-received in
     let p = c.args.packet.now in
-    let s = reception old.waiting (option_map numbered_packet old.stray) old.is_anew (open_assembly (state old.assembler.packets.depacketizer) old.assembler.packets.expected old.assembler.unit (map access_unit_value old.ended.items)) old.numbers old.is_clean old.counts old.assembler.packets.run_limit old.assembler.unit_limit in
+    let s = reception old.waiting (option_map numbered_packet old.stray) old.is_anew (open_assembly (state old.assembler.packets.depacketizer) old.assembler.packets.expected old.assembler.unit (map access_unit_value old.ended.items)) old.numbers old.decoder old.counts old.assembler.packets.run_limit old.assembler.unit_limit in
     let lacks : lacks_memory it.result ≡ false = search rules in
     let small : p.0 < 65536 = search rules in
     let is : is_taken_at_once s p.0 ≡ true = search rules in
@@ -23,6 +23,7 @@ returns-clause-taken g c = λ now.
       packet = p;
       answer = it.result;
       due = straight_is_due now now s.waiting p small (at_once s p.0 is).0;
+      follows = at_once_follows s.assembler p (at_once s p.0 is).3;
       answered = it.ensures.answer;
       room = λ bad. absurd (let both = sym (ap lacks_memory bad) ∙ lacks in cc);
       stands = due_stands (after_reception now s p pushes.Held)

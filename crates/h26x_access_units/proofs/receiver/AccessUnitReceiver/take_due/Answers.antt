@@ -11,16 +11,17 @@ pub returns-clause-taken : goal.returns-clause-taken
 returns-clause-taken g c =
     let old = c.args.self.now in
     let state = g.D.RunDepacketizer.state in
-    let it = c.take_noted-received in
+    let it = c.take_begun-received in
     let lacks : lacks_memory it.result ≡ false = search rules in
     record {
       packet = c.packet-packet.result;
       answer = it.result;
       due = sym c.in-Some.ensures ∙ ap (λ (p : ℕ × RtpBody). Some p) (sym c.packet-packet.ensures);
+      follows = c.requires c.packet-packet.result (sym c.in-Some.ensures ∙ ap (λ (p : ℕ × RtpBody). Some p) (sym c.packet-packet.ensures));
       answered = it.ensures.answer;
       room = λ bad. absurd (let both = sym (ap lacks_memory bad) ∙ lacks in cc);
       stands = due_stands
-          (reception old.waiting (option_map numbered_packet old.stray) old.is_anew (open_assembly (state old.assembler.packets.depacketizer) old.assembler.packets.expected old.assembler.unit (map access_unit_value old.ended.items)) old.numbers old.is_clean old.counts old.assembler.packets.run_limit old.assembler.unit_limit)
+          (reception old.waiting (option_map numbered_packet old.stray) old.is_anew (open_assembly (state old.assembler.packets.depacketizer) old.assembler.packets.expected old.assembler.unit (map access_unit_value old.ended.items)) old.numbers old.decoder old.counts old.assembler.packets.run_limit old.assembler.unit_limit)
           c.packet-packet.result it.result c.drop_first.new.self
           (open_assembly (state it.new.assembler.packets.depacketizer) it.new.assembler.packets.expected it.new.assembler.unit (map access_unit_value it.new.ended.items))
           it.new.numbers it.new.counts it.new.assembler.packets.run_limit it.new.assembler.unit_limit

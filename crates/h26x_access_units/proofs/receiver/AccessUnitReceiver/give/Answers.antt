@@ -1,0 +1,45 @@
+use Rattle.std.proofs.Common.{rules, ◌≡◌, ◌∙◌, ap, sym, Bool, false, Some, map, length}
+use Rattle.std.specs.Prelude.{◌==◌}
+use Rattle.std.specs.Option.{option_map}
+use Rattle.h26x_reorder.specs.ReorderBuffer.{numbered_packet}
+use Rattle.h26x_assembler.specs.AccessUnit.{access_unit_value}
+use Rattle.h26x_assembler.specs.Assembler.{assembly_at}
+use Rattle.h26x_access_units.specs.declared.config.AccessUnitConfig.{AccessUnitConfig}
+use Rattle.h26x_access_units.specs.declared.numbers.AccessUnitNumbers.{AccessUnitNumbers}
+use Rattle.h26x_access_units.specs.ReceivedAccessUnit.{ReceivedAccessUnitValue, received_unit, decoder_with}
+use Rattle.h26x_access_units.specs.Counts.{counted_unit}
+use Rattle.h26x_access_units.specs.Reception.{reception}
+use Rattle.h26x_access_units.proofs.ReceptionLemmas.{front_removed, front_given, without_front}
+use Rattle.h26x_access_units.proofs.receiver.AccessUnitReceiver.give.Goals as goal
+
+pub returns-clause-unit : goal.returns-clause-unit
+returns-clause-unit g c =
+    let old = c.args.self.now in
+    let s = reception old.waiting (option_map numbered_packet old.stray) old.is_anew (assembly_at g.D.RunDepacketizer.state old.assembler old.ended.items) old.numbers old.decoder old.counts old.assembler.packets.run_limit old.assembler.unit_limit in
+    let unit = access_unit_value c.remove-unit.result in
+    let some : (length old.ended.items == 0) ≡ false = search rules in
+    let front = front_removed old.ended.items c.remove-unit.new.self.items c.remove-unit.result some c.remove-unit.ensures.value c.remove-unit.ensures.items in
+    let sets = ap (λ (it : AccessUnitConfig). it.has_sets) c.config-has_sets.ensures.settings in
+    ap (λ (it : ReceivedAccessUnitValue). Some it) (c.of-unit.ensures.unit
+    ∙ ap (λ (b : Bool). received_unit s.decoder b c.is_avc-is_avc.result unit c.give-numbers.result) sets
+    ∙ ap (λ (b : Bool). received_unit s.decoder s.waiting.config.has_sets b unit c.give-numbers.result) c.is_avc-is_avc.ensures
+    ∙ ap (λ (n : AccessUnitNumbers). received_unit s.decoder s.waiting.config.has_sets s.assembler.state.is_avc unit n) c.give-numbers.ensures.numbers)
+    ∙ sym (front_given s unit _ front)
+
+pub returns-clause-after : goal.returns-clause-after
+returns-clause-after g c =
+    let old = c.args.self.now in
+    let s = reception old.waiting (option_map numbered_packet old.stray) old.is_anew (assembly_at g.D.RunDepacketizer.state old.assembler old.ended.items) old.numbers old.decoder old.counts old.assembler.packets.run_limit old.assembler.unit_limit in
+    let unit = access_unit_value c.remove-unit.result in
+    let some : (length old.ended.items == 0) ≡ false = search rules in
+    let front = front_removed old.ended.items c.remove-unit.new.self.items c.remove-unit.result some c.remove-unit.ensures.value c.remove-unit.ensures.items in
+    let sets = ap (λ (it : AccessUnitConfig). it.has_sets) c.config-has_sets.ensures.settings in
+    let same = c.of-unit.ensures.unit
+    ∙ ap (λ (b : Bool). received_unit s.decoder b c.is_avc-is_avc.result unit c.give-numbers.result) sets
+    ∙ ap (λ (b : Bool). received_unit s.decoder s.waiting.config.has_sets b unit c.give-numbers.result) c.is_avc-is_avc.ensures
+    ∙ ap (λ (n : AccessUnitNumbers). received_unit s.decoder s.waiting.config.has_sets s.assembler.state.is_avc unit n) c.give-numbers.ensures.numbers in
+    let decoder = c.of-unit.ensures.decoder
+    ∙ ap (λ (b : Bool). decoder_with s.decoder b c.is_avc-is_avc.result unit c.give-numbers.result) sets
+    ∙ ap (λ (b : Bool). decoder_with s.decoder s.waiting.config.has_sets b unit c.give-numbers.result) c.is_avc-is_avc.ensures
+    ∙ ap (λ (n : AccessUnitNumbers). decoder_with s.decoder s.waiting.config.has_sets s.assembler.state.is_avc unit n) c.give-numbers.ensures.numbers in
+    sym (without_front s unit (map access_unit_value c.remove-unit.new.self.items) c.give-numbers.new.self c.of-unit.new.decoder c.unit.new.self front c.give-numbers.ensures.after decoder (c.unit.ensures ∙ ap (λ (it : ReceivedAccessUnitValue). counted_unit s.counts it.is_whole) same))

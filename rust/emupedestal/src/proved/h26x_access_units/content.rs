@@ -1,0 +1,235 @@
+// Made from crates/h26x_access_units/src/content.rt by tools/to-rust.
+
+//! What the NAL units of an access unit tell of it, from the first up to its first slice.
+
+use crate::proved::h26x_core::CodecExtra;
+use crate::proved::h26x_cut::behind_code;
+
+/// How many NAL units are looked at before the first slice.
+const MOST_UNITS: usize = 64;
+
+/// Which parameter sets there are.
+#[derive(Debug, Clone, Copy, PartialEq, Eq)]
+pub struct ParameterSets {
+    /// A video parameter set, of H.265 and H.266.
+    pub vps: bool,
+    /// A sequence parameter set.
+    pub sps: bool,
+    /// A picture parameter set.
+    pub pps: bool,
+}
+
+impl ParameterSets {
+    /// None.
+    pub(crate) const NONE: Self = ParameterSets {
+        vps: false,
+        sps: false,
+        pps: false,
+    };
+
+    /// These and others.
+    pub(crate) fn joined(self, others: Self) -> Self {
+        ParameterSets {
+            vps: self.vps || others.vps,
+            sps: self.sps || others.sps,
+            pps: self.pps || others.pps,
+        }
+    }
+}
+
+/// The first slice of an access unit.
+#[derive(Debug, Clone, Copy, PartialEq, Eq)]
+pub struct Slice {
+    /// Whether it is the first of its picture.
+    pub is_first: bool,
+    /// Whether its type is that of a keyframe.
+    pub is_key: bool,
+    /// Whether no picture of its temporal layer refers to its picture.
+    pub is_unreferenced: bool,
+    /// Its temporal layer, the lowest 1; 0 where one that is unreferenced is so of every layer.
+    pub layer: u8,
+}
+
+/// What kind of NAL unit begins.
+#[derive(Debug, Clone, Copy, PartialEq, Eq)]
+pub enum UnitKind {
+    /// An access unit delimiter.
+    Delimiter,
+    /// A video parameter set.
+    Vps,
+    /// A sequence parameter set, with the highest temporal layer that it tells, or 0.
+    Sps(u8),
+    /// A picture parameter set.
+    Pps,
+    /// A picture header of H.266, and whether no picture refers to its picture.
+    PictureHeader(bool),
+    /// A slice.
+    Slice(Slice),
+    /// Any other.
+    Other,
+}
+
+/// What the NAL units of an access unit tell of it, up to its first slice.
+#[derive(Debug, Clone, Copy, PartialEq, Eq)]
+pub struct Content {
+    /// The kind of the first one.
+    pub first: Option<UnitKind>,
+    /// Which parameter sets are among them.
+    pub sets: ParameterSets,
+    /// The highest temporal layer that a sequence parameter set tells, or 0.
+    pub highest_layer: u8,
+    /// Whether no picture refers to the picture, where a picture header tells so.
+    pub picture_header: Option<bool>,
+    /// The first slice.
+    pub slice: Option<Slice>,
+}
+
+/// The byte at a place, 0 behind the end.
+#[inline]
+fn byte_at(unit: &[u8], place: usize) -> u8 {
+    if place < unit.len() { unit[place] } else { 0 }
+}
+
+/// The kind of an H.264 unit (Recommendation H.264, 7.3.1, 7.3.3, table 7-1).
+fn h264_kind(unit: &[u8]) -> UnitKind {
+    let header = byte_at(unit, 0);
+    match header & 0x1f {
+        7 => UnitKind::Sps(0),
+        8 => UnitKind::Pps,
+        9 => UnitKind::Delimiter,
+        1 | 2 | 5 => UnitKind::Slice(Slice {
+            is_first: byte_at(unit, 1) >> 7 != 0,
+            is_key: header & 0x1f == 5,
+            is_unreferenced: header >> 5 & 3 == 0,
+            layer: 0,
+        }),
+        _ => UnitKind::Other,
+    }
+}
+
+/// The kind of an H.265 unit; no header has a temporal layer of 0 (Recommendation H.265, 7.3.1.2,
+/// 7.3.2.2, 7.3.6.1, table 7-1).
+fn h265_kind(unit: &[u8]) -> UnitKind {
+    let (header, second, third) = (byte_at(unit, 0), byte_at(unit, 1), byte_at(unit, 2));
+    if header & 1 != 0 || second >> 3 != 0 || second & 7 == 0 {
+        return UnitKind::Other;
+    }
+    let kind = header >> 1 & 0x3f;
+    match kind {
+        32 => UnitKind::Vps,
+        33 => UnitKind::Sps((third >> 1 & 7) + 1),
+        34 => UnitKind::Pps,
+        35 => UnitKind::Delimiter,
+        0..=9 | 16..=21 => UnitKind::Slice(Slice {
+            is_first: third >> 7 != 0,
+            is_key: kind >= 16,
+            is_unreferenced: kind < 16 && kind & 1 == 0,
+            layer: second & 7,
+        }),
+        _ => UnitKind::Other,
+    }
+}
+
+/// The kind of an H.266 unit; no header has a temporal layer of 0 (Recommendation H.266, 7.3.1.2,
+/// 7.3.2.8, 7.3.7, table 5).
+fn h266_kind(unit: &[u8]) -> UnitKind {
+    let (header, second, third) = (byte_at(unit, 0), byte_at(unit, 1), byte_at(unit, 2));
+    if header & 0x3f != 0 || second & 7 == 0 {
+        return UnitKind::Other;
+    }
+    let kind = second >> 3;
+    match kind {
+        14 => UnitKind::Vps,
+        15 => UnitKind::Sps(0),
+        16 => UnitKind::Pps,
+        19 => UnitKind::PictureHeader(third >> 6 & 1 != 0),
+        20 => UnitKind::Delimiter,
+        0..=3 | 7..=10 => UnitKind::Slice(Slice {
+            is_first: third >> 7 != 0,
+            is_key: kind >= 7 && kind <= 9,
+            is_unreferenced: third >> 7 != 0 && third >> 5 & 1 != 0,
+            layer: 0,
+        }),
+        _ => UnitKind::Other,
+    }
+}
+
+/// The kind of a unit, by what is told of its codec; where nothing is told any other.
+fn content_kind(extra: CodecExtra, unit: &[u8]) -> UnitKind {
+    match extra {
+        CodecExtra::None => UnitKind::Other,
+        CodecExtra::H264(_) => h264_kind(unit),
+        CodecExtra::H265(_) => h265_kind(unit),
+        CodecExtra::H266(_) => h266_kind(unit),
+    }
+}
+
+/// What stands of a text from its first unit on, and behind what precedes the next one.
+fn first_unit(is_avc: bool, text: &[u8]) -> Option<(&[u8], &[u8])> {
+    if !is_avc {
+        let unit = behind_code(text)?;
+        return Some((unit, unit));
+    }
+    if text.len() < 4 {
+        return None;
+    }
+    let len = u32::from_be_bytes([text[0], text[1], text[2], text[3]]) as usize;
+    let unit = &text[4..];
+    Some((unit, if len < unit.len() { &unit[len..] } else { &[] }))
+}
+
+impl Content {
+    /// That of no units.
+    const NONE: Self = Content {
+        first: None,
+        sets: ParameterSets::NONE,
+        highest_layer: 0,
+        picture_header: None,
+        slice: None,
+    };
+
+    /// The same with a unit more.
+    fn with(mut self, kind: UnitKind) -> Self {
+        if self.first.is_none() {
+            self.first = Some(kind);
+        }
+        match kind {
+            UnitKind::Vps => self.sets.vps = true,
+            UnitKind::Sps(highest) => {
+                self.sets.sps = true;
+                self.highest_layer = self.highest_layer.max(highest);
+            }
+            UnitKind::Pps => self.sets.pps = true,
+            UnitKind::PictureHeader(is_unreferenced) => self.picture_header = Some(is_unreferenced),
+            UnitKind::Slice(slice) => {
+                self.slice = Some(match self.picture_header {
+                    Some(is_unreferenced) => Slice {
+                        is_first: true,
+                        is_unreferenced,
+                        ..slice
+                    },
+                    None => slice,
+                });
+            }
+            UnitKind::Delimiter | UnitKind::Other => {}
+        }
+        self
+    }
+}
+
+/// What the units of a text tell, up to the first slice; behind 64 units none is looked at.
+pub(crate) fn content_of(is_avc: bool, extra: CodecExtra, text: &[u8]) -> Content {
+    let mut content = Content::NONE;
+    let mut rest = text;
+    for _ in 0..MOST_UNITS {
+        let Some((unit, behind)) = first_unit(is_avc, rest) else {
+            return content;
+        };
+        content = content.with(content_kind(extra, unit));
+        if content.slice.is_some() {
+            return content;
+        }
+        rest = behind;
+    }
+    content
+}

@@ -1,0 +1,173 @@
+// Made from crates/h26x_access_units/src/decoder.rt by tools/to-rust.
+
+//! What is known of a decoder that is given the access units, one after the other.
+
+use crate::proved::h26x_access_units::content::{Content, ParameterSets, UnitKind};
+use crate::proved::h26x_access_units::numbers::AccessUnitNumbers;
+use crate::proved::h26x_core::CodecExtra;
+
+/// What is known of a decoder that is given the access units, one after the other.
+#[derive(Debug, Clone, Copy, PartialEq, Eq)]
+pub(crate) struct DecoderState {
+    /// Whether it can go on: nothing was missing since a keyframe with which it could begin, but of
+    /// pictures that nothing refers to.
+    pub is_clean: bool,
+    /// The parameter sets that came in order.
+    pub sets: ParameterSets,
+    /// The highest temporal layer that sequence parameter sets tell, or 0.
+    pub highest_layer: u8,
+    /// Whether an access unit was given out since the beginning or `restart`.
+    pub has_begun: bool,
+}
+
+/// Whether a decoder needs no other parameter sets.
+fn are_enough(extra: CodecExtra, sets: ParameterSets) -> bool {
+    match extra {
+        CodecExtra::None => false,
+        CodecExtra::H264(_) | CodecExtra::H266(_) => sets.sps && sets.pps,
+        CodecExtra::H265(_) => sets.vps && sets.sps && sets.pps,
+    }
+}
+
+/// Whether the first slice is the first of a keyframe.
+fn is_first_key(content: Content) -> bool {
+    match content.slice {
+        Some(slice) => slice.is_first && slice.is_key,
+        None => false,
+    }
+}
+
+impl DecoderState {
+    /// Before any access unit.
+    pub(crate) fn fresh() -> Self {
+        DecoderState {
+            is_clean: false,
+            sets: ParameterSets::NONE,
+            highest_layer: 0,
+            has_begun: false,
+        }
+    }
+
+    /// Whether a unit stands at the front of its access unit, by its kind, and whether that is the
+    /// first.
+    pub(crate) fn is_front(self, extra: CodecExtra, first: Option<UnitKind>) -> bool {
+        match first {
+            Some(UnitKind::Delimiter) => true,
+            Some(UnitKind::Vps) => !self.has_begun,
+            Some(UnitKind::Sps(_)) => match extra {
+                CodecExtra::H265(_) => false,
+                _ => !self.has_begun,
+            },
+            _ => false,
+        }
+    }
+
+    /// Whether no picture refers to that of an access unit before which its sequence parameter set
+    /// came.
+    fn is_disposable_at(highest_layer: u8, content: Content) -> bool {
+        match content.slice {
+            Some(slice) => {
+                slice.is_unreferenced
+                    && !slice.is_key
+                    && (slice.layer == 0 || slice.layer == highest_layer)
+            }
+            None => false,
+        }
+    }
+
+    /// The sets that came in order before an access unit.
+    fn sets_before(self, numbers: AccessUnitNumbers) -> ParameterSets {
+        if numbers.follows {
+            self.sets
+        } else {
+            ParameterSets::NONE
+        }
+    }
+
+    /// Those that came in order, with its own.
+    fn sets_after(
+        self,
+        is_unbroken: bool,
+        numbers: AccessUnitNumbers,
+        content: Content,
+    ) -> ParameterSets {
+        if is_unbroken {
+            self.sets_before(numbers).joined(content.sets)
+        } else {
+            ParameterSets::NONE
+        }
+    }
+
+    /// The highest temporal layer that sequence parameter sets tell: its own, or those of the last one
+    /// that had some, where no number is missing between access units since.
+    fn layer_after(self, numbers: AccessUnitNumbers, content: Content) -> u8 {
+        if content.highest_layer != 0 {
+            content.highest_layer
+        } else if numbers.follows {
+            self.highest_layer
+        } else {
+            0
+        }
+    }
+
+    /// Whether no picture refers to that of an access unit.
+    pub(crate) fn is_disposable(self, numbers: AccessUnitNumbers, content: Content) -> bool {
+        DecoderState::is_disposable_at(self.layer_after(numbers, content), content)
+    }
+
+    /// Whether a decoder can begin with an access unit.
+    fn can_begin(
+        self,
+        has_sets: bool,
+        is_unbroken: bool,
+        extra: CodecExtra,
+        numbers: AccessUnitNumbers,
+        content: Content,
+    ) -> bool {
+        let begins = is_unbroken && !numbers.continues;
+        begins
+            && is_first_key(content)
+            && (has_sets || are_enough(extra, self.sets_after(is_unbroken, numbers, content)))
+    }
+
+    /// Whether a decoder that could go on before an access unit can go on behind it.
+    fn can_go_on(self, is_unbroken: bool, numbers: AccessUnitNumbers, content: Content) -> bool {
+        self.is_clean && numbers.follows && (is_unbroken || self.is_disposable(numbers, content))
+    }
+
+    /// Whether an access unit is told to be whole, which is unbroken from its first packet on or isn't.
+    pub(crate) fn tells_whole(
+        self,
+        is_unbroken: bool,
+        extra: CodecExtra,
+        numbers: AccessUnitNumbers,
+        content: Content,
+    ) -> bool {
+        is_unbroken
+            && !numbers.continues
+            && (numbers.follows || self.is_front(extra, content.first))
+    }
+
+    /// Whether a decoder can show an access unit behind which it is so.
+    pub(crate) fn shows(self, is_unbroken: bool) -> bool {
+        is_unbroken && self.is_clean
+    }
+
+    /// Once an access unit is given out, which is unbroken from its first packet on or isn't.
+    pub(crate) fn after(
+        self,
+        has_sets: bool,
+        is_unbroken: bool,
+        extra: CodecExtra,
+        numbers: AccessUnitNumbers,
+        content: Content,
+    ) -> Self {
+        DecoderState {
+            is_clean: self.can_begin(has_sets, is_unbroken, extra, numbers, content)
+                || self.can_go_on(is_unbroken, numbers, content),
+            sets: self.sets_after(is_unbroken, numbers, content),
+            highest_layer: self.layer_after(numbers, content),
+            has_begun: true,
+        }
+    }
+}
