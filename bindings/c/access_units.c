@@ -10,13 +10,15 @@ struct receiving {
     h26x_access_units u;
 };
 
-/* A window of four places, a wait of 100 ticks, and room for all else. */
+/* A window of four places, a wait of 100 ticks, none at the beginning, a decoder that has parameter sets, and room
+ * for all else. */
 static h26x_access_units_config settings(uint32_t codec)
 {
     return (h26x_access_units_config){
         .codec = codec,
         .max_wait = 100,
         .window = 4,
+        .has_sets = true,
         .held_limit = 1000,
         .run_limit = 1000,
         .unit_limit = 1000,
@@ -66,7 +68,7 @@ static bool is_told(h26x_access_unit a, h26x_access_unit b)
 {
     return a.len == b.len && a.timestamp == b.timestamp && a.missing == b.missing && a.first == b.first
         && a.last == b.last && a.extra == b.extra && a.is_whole == b.is_whole
-        && a.is_clean == b.is_clean && a.continues == b.continues;
+        && a.is_clean == b.is_clean && a.is_disposable == b.is_disposable && a.continues == b.continues;
 }
 
 /* Takes an access unit, whose length need not be said, and compares it. */
@@ -132,26 +134,32 @@ static void counts_at(struct receiving *it, h26x_access_units_counts wanted, int
 }
 #define counts(it, ...) counts_at(it, (h26x_access_units_counts){__VA_ARGS__}, __LINE__)
 
-/* A codec's unit of a keyframe in one packet, another slice, and a unit of a keyframe in three fragments
- * (RFC 6184, 5.6 and 5.8; RFC 7798, 4.4.1 and 4.4.3; RFC 9328, 4.3.1 and 4.3.3), and the three behind
- * start codes. */
+/* A codec's parameter sets in their order, an access unit delimiter, the first slice of a keyframe and a later one, one
+ * of another picture, one to which nothing refers where there is one temporal layer, and a keyframe in three fragments
+ * (RFC 6184, 5.6 and 5.8; RFC 7798, 4.4.1 and 4.4.3; RFC 9328, 4.3.1 and 4.3.3); and some behind start codes. */
 struct packets {
     uint32_t codec;
-    const char *key, *slice, *start, *middle, *end, *key_unit, *slice_unit, *unit;
+    const char *sets[3], *delimiter, *key, *later, *slice, *unreferenced, *start, *middle, *end;
+    const char *keyframe_units, *key_unit, *later_unit, *slice_unit, *unit;
 };
 
 static const struct packets all_packets[] = {
-    {H26X_H264, "6501", "6102", "7c850102", "7c050304", "7c450506", "00000001 6501",
-     "00000001 6102", "00000001 65010203040506"},
-    {H26X_H265, "260101", "020102", "6201930102", "6201130304", "6201530506", "00000001 260101",
-     "00000001 020102", "00000001 2601010203040506"},
-    {H26X_H266, "003901", "000102", "00e9870102", "00e9070304", "00e9470506", "00000001 003901",
-     "00000001 000102", "00000001 0039010203040506"},
+    {H26X_H264, {"6742c01f", "68ce"}, "09f0", "6588", "6540", "619a", "019a", "7c858802", "7c050304", "7c450506",
+     "00000001 6742c01f 00000001 68ce 00000001 6588", "00000001 6588", "00000001 6540", "00000001 619a",
+     "00000001 65880203040506"},
+    {H26X_H265, {"40010c", "420101", "4401c1"}, "460150", "2601ac", "26012c", "0201d0", "0001d0", "620193ac02",
+     "6201130304", "6201530506", "00000001 40010c 00000001 420101 00000001 4401c1 00000001 2601ac", "00000001 2601ac",
+     "00000001 26012c", "00000001 0201d0", "00000001 2601ac0203040506"},
+    {H26X_H266, {"007900", "008100"}, "00a128", "0041c0", "004140", "0001c0", "0001e0", "00e988c002",
+     "00e9080304", "00e9480506", "00000001 007900 00000001 008100 00000001 0041c0", "00000001 0041c0",
+     "00000001 004140",
+     "00000001 0001c0", "00000001 0041c00203040506"},
 };
 
 enum { KEY = 2, SLICE = 1 };
 
-/* A stream whose first packet may not be the first that was sent; its numbers go round. */
+/* A stream that begins with a keyframe that bears no parameter set: it is given out at once, and since nobody knows
+ * whether it is all, not told whole; its numbers go round. */
 static void check_beginning(struct tally *t, const struct packets *p)
 {
     struct receiving it = receiver_of(t, settings(p->codec));
@@ -159,10 +167,9 @@ static void check_beginning(struct tally *t, const struct packets *p)
     misses(&it, 0, 0);
     gives_none(&it, 0);
     holds(&it, 7, 65534, 0, true, p->key);
-    gives_none(&it, 7);
-    asks_at(&it, 107);
-    gives_none(&it, 106);
-    gives(&it, 107, p->key_unit, .first = 65534, .last = 65534, .extra = KEY);
+    asks_at(&it, 7);
+    misses(&it, 0, 0);
+    gives(&it, 7, p->key_unit, .first = 65534, .last = 65534, .extra = KEY, .is_clean = true);
     asks_never(&it);
     holds(&it, 108, 65535, 3000, true, p->key);
     gives(&it, 108, p->key_unit, .timestamp = 3000, .first = 65535, .last = 65535, .extra = KEY,
@@ -180,7 +187,7 @@ static void check_losses(struct tally *t, const struct packets *p)
 {
     struct receiving it = receiver_of(t, settings(p->codec));
     holds(&it, 0, 10, 0, true, p->key);
-    gives(&it, 100, p->key_unit, .first = 10, .last = 10, .extra = KEY);
+    gives(&it, 100, p->key_unit, .first = 10, .last = 10, .extra = KEY, .is_clean = true);
     /* The middle fragment comes last, the last one twice, and the first one again once it was taken. */
     holds(&it, 100, 11, 3000, false, p->start);
     gives_none(&it, 100);
@@ -226,7 +233,7 @@ static void check_markers(struct tally *t, const struct packets *p)
     struct receiving it = receiver_of(t, settings(p->codec));
     uint32_t pushed = 99;
     holds(&it, 0, 10, 0, true, p->key);
-    gives(&it, 100, p->key_unit, .first = 10, .last = 10, .extra = KEY);
+    gives(&it, 100, p->key_unit, .first = 10, .last = 10, .extra = KEY, .is_clean = true);
     holds(&it, 100, 11, 3000, true, p->key);
     holds(&it, 100, 12, 3000, true, p->slice);
     gives(&it, 100, p->key_unit, .timestamp = 3000, .first = 11, .last = 11, .extra = KEY,
@@ -259,7 +266,7 @@ static void check_strays(struct tally *t, const struct packets *p)
     config.far_away = 100;
     struct receiving it = receiver_of(t, config);
     holds(&it, 0, 10, 0, true, p->key);
-    gives(&it, 100, p->key_unit, .first = 10, .last = 10, .extra = KEY);
+    gives(&it, 100, p->key_unit, .first = 10, .last = 10, .extra = KEY, .is_clean = true);
     /* 11 is due. 110 is 99 ahead of it, 111 a stray, and 10,111 one in its place. */
     pushes(&it, 100, 111, 3000, true, p->slice, H26X_STRAY, 0);
     pushes(&it, 100, 10111, 3000, true, p->slice, H26X_STRAY, 0);
@@ -270,11 +277,11 @@ static void check_strays(struct tally *t, const struct packets *p)
     pushes(&it, 100, 45547, 6000, true, p->key, H26X_STRAY, 0);
     pushes(&it, 100, 45548, 9000, true, p->slice, H26X_ANEW, 0);
     gives(&it, 100, p->slice_unit, .timestamp = 3000, .first = 11, .last = 11, .extra = SLICE);
+    gives(&it, 100, p->key_unit, .timestamp = 6000, .first = 45547, .last = 45547, .extra = KEY,
+          .is_clean = true);
+    gives(&it, 100, p->slice_unit, .timestamp = 9000, .first = 45548, .last = 45548, .extra = SLICE,
+          .is_whole = true, .is_clean = true);
     gives_none(&it, 100);
-    gives(&it, 200, p->key_unit, .timestamp = 6000, .first = 45547, .last = 45547, .extra = KEY);
-    gives(&it, 200, p->slice_unit, .timestamp = 9000, .first = 45548, .last = 45548, .extra = SLICE,
-          .is_whole = true);
-    gives_none(&it, 200);
     counts(&it, .taken = 4, .lost = 1, .stray = 4, .anew = 1, .units = 4, .whole = 1);
     h26x_access_units_free(it.u);
 }
@@ -299,7 +306,7 @@ static void check_limits(struct tally *t, const struct packets *p)
     it = receiver_of(t, settings(p->codec));
     pushes_at(&it, 0, 10, 0, true, p->codec == H26X_H264 ? "7f01" : "ff", H26X_HELD, 0, __LINE__);
     holds(&it, 0, 11, 0, true, p->key);
-    gives(&it, 100, p->key_unit, .missing = 1, .first = 11, .last = 11, .extra = KEY);
+    gives(&it, 100, p->key_unit, .missing = 1, .first = 11, .last = 11, .extra = KEY, .is_clean = true);
     counts(&it, .taken = 1, .lost = 1, .refused = 1, .units = 1);
     h26x_access_units_free(it.u);
 
@@ -331,9 +338,11 @@ static void check_limits(struct tally *t, const struct packets *p)
 /* The end of a stream, ticks that go round, and another sender. */
 static void check_ends_of_streams(struct tally *t, const struct packets *p)
 {
-    struct receiving it = receiver_of(t, settings(p->codec));
+    h26x_access_units_config config = settings(p->codec);
+    config.begin_wait = UINT32_MAX;
+    struct receiving it = receiver_of(t, config);
     holds(&it, 0, 10, 0, true, p->key);
-    gives(&it, 100, p->key_unit, .first = 10, .last = 10, .extra = KEY);
+    gives(&it, 100, p->key_unit, .first = 10, .last = 10, .extra = KEY, .is_clean = true);
     holds(&it, 100, 12, 3000, false, p->key);
     gives_none(&it, 100);
     expect(t, h26x_access_units_finish(&it.u) == H26X_OK);
@@ -343,7 +352,7 @@ static void check_ends_of_streams(struct tally *t, const struct packets *p)
     holds(&it, UINT32_MAX - 15, 5, 0, true, p->key);
     asks_at(&it, 84);
     gives_none(&it, 83);
-    gives(&it, 84, p->key_unit, .first = 5, .last = 5, .extra = KEY);
+    gives(&it, 84, p->key_unit, .first = 5, .last = 5, .extra = KEY, .is_clean = true);
     pushes(&it, 85, 45541, 3000, true, p->key, H26X_PUSHED_LATE, 20001);
     holds(&it, 85, 6, 3000, false, p->start);
     expect(t, h26x_access_units_restart(&it.u) == H26X_OK);
@@ -351,27 +360,29 @@ static void check_ends_of_streams(struct tally *t, const struct packets *p)
     holds(&it, 85, 45541, 3000, true, p->key);
     gives_none(&it, 85);
     expect(t, h26x_access_units_finish(&it.u) == H26X_OK);
-    gives(&it, 85, p->key_unit, .timestamp = 3000, .first = 45541, .last = 45541, .extra = KEY);
+    gives(&it, 85, p->key_unit, .timestamp = 3000, .first = 45541, .last = 45541, .extra = KEY,
+          .is_clean = true);
     counts(&it, .taken = 5, .lost = 1, .late = 1, .units = 4);
     h26x_access_units_free(it.u);
 }
 
-/* Refused packets over more than half of the numbers' circle: none that comes behind them is late. */
+/* Refused packets over more than half of the numbers' circle: none that comes behind them is late. Each of them is
+ * missing, so the next one waits to be taken. */
 static void check_long_refusals(struct tally *t, const struct packets *p)
 {
     const uint8_t refused[] = {p->codec == H26X_H264 ? 0x7f : 0xff};
     uint32_t held = 0;
     struct receiving it = receiver_of(t, settings(p->codec));
     holds(&it, 0, 65000, 0, true, p->key);
-    gives(&it, 100, p->key_unit, .first = 65000, .last = 65000, .extra = KEY);
+    gives(&it, 100, p->key_unit, .first = 65000, .last = 65000, .extra = KEY, .is_clean = true);
     for (uint32_t i = 1; i <= 40000; i++) {
         uint32_t pushed = 99;
         const uint16_t number = (uint16_t)(65000 + i);
         const uint32_t code = h26x_access_units_push(&it.u, 100, number, 0, true, refused, 1, &pushed, NULL);
         held += code == H26X_OK && pushed == H26X_HELD;
+        gives_none(&it, 100);
     }
     expect(t, held == 40000);
-    gives_none(&it, 100);
     misses(&it, 0, 0);
     holds(&it, 100, (uint16_t)(65000 + 40001), 3000, true, p->slice);
     gives(&it, 100, p->slice_unit, .timestamp = 3000, .missing = 40000, .first = 39465, .last = 39465,
@@ -386,7 +397,7 @@ static void check_room(struct tally *t, const struct packets *p)
     struct receiving it = receiver_of(t, settings(p->codec));
     struct bytes wanted = bytes_of(p->unit);
     uint8_t to[64] = {7};
-    h26x_access_unit unit, told = {.len = wanted.len, .first = 10, .last = 12, .extra = KEY};
+    h26x_access_unit unit, told = {.len = wanted.len, .first = 10, .last = 12, .extra = KEY, .is_clean = true};
     holds(&it, 0, 10, 0, false, p->start);
     holds(&it, 0, 11, 0, false, p->middle);
     holds(&it, 0, 12, 0, true, p->end);
@@ -409,9 +420,9 @@ static void check_room(struct tally *t, const struct packets *p)
     holds(&it, 0, 20, 0, true, p->key);
     holds(&it, 0, 21, 3000, true, p->slice);
     expect(t, h26x_access_units_next(&it.u, 100, to, 1, NULL) == H26X_NO_ROOM);
-    gives(&it, 100, p->key_unit, .first = 20, .last = 20, .extra = KEY);
+    gives(&it, 100, p->key_unit, .first = 20, .last = 20, .extra = KEY, .is_clean = true);
     gives(&it, 100, p->slice_unit, .timestamp = 3000, .first = 21, .last = 21, .extra = SLICE,
-          .is_whole = true);
+          .is_whole = true, .is_clean = true);
     counts(&it, .taken = 5, .units = 3, .whole = 1);
     h26x_access_units_free(it.u);
 }
@@ -441,6 +452,7 @@ static void check_left_out(struct tally *t, const struct packets *p)
     misses(&it, 3, 65535, 0, 1);
     expect(t, h26x_access_units_next(&it.u, 100, NULL, 0, NULL) == H26X_NOTHING_YET);
     expect(t, h26x_access_units_count(&it.u, NULL) == H26X_OK);
+    expect(t, h26x_access_units_begin_at(&it.u, 9, NULL) == H26X_OK);
     h26x_access_units_close(&it.u);
     h26x_access_units_close(&it.u);
     expect(t, it.u.at == NULL);
@@ -455,26 +467,425 @@ static void check_settings(struct tally *t, const struct packets *p)
     struct receiving it = receiver_of(t, config);
     holds(&it, 0, 10, 0, false, p->slice);
     holds(&it, 0, 12, 0, true, p->slice);
-    gives(&it, 0, p->codec == H26X_H264 ? "00000002 6102 00000002 6102"
-                  : p->codec == H26X_H265 ? "00000003 020102 00000003 020102"
-                                          : "00000003 000102 00000003 000102",
+    gives(&it, 0, p->codec == H26X_H264 ? "00000002 619a 00000002 619a"
+                  : p->codec == H26X_H265 ? "00000003 0201d0 00000003 0201d0"
+                                          : "00000003 0001c0 00000003 0001c0",
           .missing = 1, .first = 10, .last = 12, .extra = SLICE);
     h26x_access_units_free(it.u);
 
     config = settings(p->codec);
     config.numbers = true;
-    config.max_wait = UINT32_MAX;
+    config.max_wait = config.begin_wait = UINT32_MAX;
     if (p->codec == H26X_H264)
         return;
     it = receiver_of(t, config);
-    holds(&it, 0, 10, 0, true, p->codec == H26X_H265 ? "02010005aa" : "00010005aa");
+    holds(&it, 0, 10, 0, true, p->codec == H26X_H265 ? "02010005d0" : "00010005c0");
     asks_never(&it);
     gives_none(&it, UINT32_MAX);
     expect(t, h26x_access_units_finish(&it.u) == H26X_OK);
-    gives(&it, 0, p->codec == H26X_H265 ? "00000001 0201aa" : "00000001 0001aa", .first = 10, .last = 10,
+    gives(&it, 0, p->slice_unit, .first = 10, .last = 10,
           .extra = SLICE);
     h26x_access_units_free(it.u);
 }
+
+/* ---- How a stream begins ---- */
+
+static size_t sets_of(const struct packets *p)
+{
+    return p->codec == H26X_H265 ? 3 : 2;
+}
+
+/* Packets of one access unit: the parameter sets, and a keyframe with the marker. How many they are. */
+static uint16_t holds_keyframe(struct receiving *it, uint32_t now, uint16_t sequence, uint32_t timestamp,
+                               const struct packets *p)
+{
+    const size_t sets = sets_of(p);
+    for (size_t i = 0; i < sets; i++)
+        holds(it, now, (uint16_t)(sequence + i), timestamp, false, p->sets[i]);
+    holds(it, now, (uint16_t)(sequence + sets), timestamp, true, p->key);
+    return (uint16_t)(sets + 1);
+}
+
+static struct receiving receiver_without_sets(struct tally *t, const struct packets *p)
+{
+    h26x_access_units_config config = settings(p->codec);
+    config.has_sets = false;
+    return receiver_of(t, config);
+}
+
+/* A lossless stream: its first access unit is given out as soon as it has ended, whole and clean. */
+static void check_first_keyframe(struct tally *t, const struct packets *p)
+{
+    struct receiving it = receiver_without_sets(t, p);
+    const uint16_t count = holds_keyframe(&it, 7, 65534, 0, p), next = (uint16_t)(65534 + count);
+    asks_at(&it, 7);
+    misses(&it, 0, 0);
+    gives(&it, 7, p->keyframe_units, .first = 65534, .last = (uint16_t)(next - 1), .extra = KEY, .is_whole = true,
+          .is_clean = true);
+    asks_never(&it);
+    holds(&it, 7, next, 3000, true, p->slice);
+    gives(&it, 7, p->slice_unit, .timestamp = 3000, .first = next, .last = next, .extra = SLICE, .is_whole = true,
+          .is_clean = true);
+    counts(&it, .taken = count + 1u, .units = 2, .whole = 2);
+    h26x_access_units_free(it.u);
+}
+
+/* Packets before the first that comes are taken within begin_wait, and max_wait at most; never asked for. */
+static void check_reordered_start(struct tally *t, const struct packets *p)
+{
+    h26x_access_units_config config = settings(p->codec);
+    config.begin_wait = 20;
+    config.far_away = 100;
+    struct receiving it = receiver_of(t, config);
+    holds(&it, 0, 12, 0, true, p->later);
+    misses(&it, 0, 0);
+    asks_at(&it, 20);
+    gives_none(&it, 19);
+    holds(&it, 19, 10, 0, false, p->key);
+    misses(&it, 1, 11);
+    gives_none(&it, 19);
+    holds(&it, 19, 11, 0, false, p->later);
+    gives_none(&it, 19);
+    asks_at(&it, 20);
+    char all[128];
+    snprintf(all, sizeof all, "%s%s%s", p->key_unit, p->later_unit, p->later_unit);
+    gives(&it, 20, all, .first = 10, .last = 12, .extra = KEY, .is_clean = true);
+    /* Once it has begun, max_wait holds. */
+    holds(&it, 30, 14, 3000, true, p->slice);
+    misses(&it, 1, 13);
+    asks_at(&it, 130);
+    gives_none(&it, 129);
+    gives(&it, 130, p->slice_unit, .timestamp = 3000, .missing = 1, .first = 14, .last = 14, .extra = SLICE);
+    /* A stream that begins anew, another sender, and the end of a stream have a beginning. */
+    pushes(&it, 140, 5000, 6000, true, p->slice, H26X_STRAY, 0);
+    pushes(&it, 141, 5001, 9000, true, p->slice, H26X_ANEW, 0);
+    misses(&it, 0, 0);
+    asks_at(&it, 161);
+    gives_none(&it, 160);
+    holds(&it, 160, 4999, 3000, true, p->key);
+    gives(&it, 161, p->key_unit, .timestamp = 3000, .first = 4999, .last = 4999, .extra = KEY, .is_clean = true);
+    expect(t, h26x_access_units_restart(&it.u) == H26X_OK);
+    holds(&it, 200, 500, 0, true, p->key);
+    asks_at(&it, 220);
+    gives_none(&it, 219);
+    gives(&it, 220, p->key_unit, .first = 500, .last = 500, .extra = KEY, .is_clean = true);
+    expect(t, h26x_access_units_finish(&it.u) == H26X_OK);
+    gives_none(&it, 220);
+    holds(&it, 300, 40000, 0, true, p->slice);
+    asks_at(&it, 320);
+    gives_none(&it, 319);
+    gives(&it, 320, p->slice_unit, .first = 40000, .last = 40000, .extra = SLICE);
+    h26x_access_units_free(it.u);
+
+    /* Without a wait those before the first come late. */
+    config.begin_wait = 0;
+    it = receiver_of(t, config);
+    holds(&it, 0, 11, 0, true, p->later);
+    gives(&it, 0, p->later_unit,
+          .first = 11, .last = 11, .extra = KEY);
+    pushes(&it, 0, 10, 0, false, p->key, H26X_PUSHED_LATE, 2);
+    h26x_access_units_free(it.u);
+
+    /* The shorter of both waits. */
+    config.begin_wait = 500;
+    it = receiver_of(t, config);
+    holds(&it, 0, 10, 0, true, p->slice);
+    asks_at(&it, 100);
+    gives_none(&it, 99);
+    gives(&it, 100, p->slice_unit, .first = 10, .last = 10, .extra = SLICE);
+    h26x_access_units_free(it.u);
+}
+
+static void begins_at(struct receiving *it, uint16_t sequence, uint32_t wanted, int line)
+{
+    uint32_t in_time = 99;
+    expect_at(it->tally, h26x_access_units_begin_at(&it->u, sequence, &in_time) == H26X_OK, "a first number",
+              __FILE__, line);
+    expect_at(it->tally, in_time == wanted, "whether it is said in time", __FILE__, line);
+}
+
+/* The number of the first packet is said: packets from it on are waited for, and the first access unit is whole
+ * where all of it came. */
+static void check_told_number(struct tally *t, const struct packets *p)
+{
+    struct receiving it = receiver_of(t, settings(p->codec));
+    char both[64];
+    snprintf(both, sizeof both, "%s%s", p->slice_unit, p->slice_unit);
+    begins_at(&it, 65535, 1, __LINE__);
+    begins_at(&it, 9, 0, __LINE__);
+    asks_never(&it);
+    misses(&it, 0, 0);
+    holds(&it, 5, 0, 0, true, p->slice);
+    misses(&it, 1, 65535);
+    asks_at(&it, 105);
+    gives_none(&it, 104);
+    holds(&it, 104, 65535, 0, false, p->slice);
+    gives(&it, 104, both, .first = 65535, .last = 0, .extra = SLICE,
+          .is_whole = true);
+    begins_at(&it, 1, 0, __LINE__);
+    counts(&it, .taken = 2, .units = 1, .whole = 1);
+
+    /* It didn't come. One more behind it is late. */
+    expect(t, h26x_access_units_restart(&it.u) == H26X_OK);
+    begins_at(&it, 9, 1, __LINE__);
+    holds(&it, 0, 10, 0, true, p->slice);
+    gives_none(&it, 99);
+    gives(&it, 100, p->slice_unit, .missing = 1, .first = 10, .last = 10, .extra = SLICE);
+    pushes(&it, 100, 9, 0, false, p->slice, H26X_PUSHED_LATE, 2);
+
+    /* Once a packet waits it is too late, and nothing changes. */
+    expect(t, h26x_access_units_restart(&it.u) == H26X_OK);
+    holds(&it, 0, 10, 0, true, p->slice);
+    begins_at(&it, 8, 0, __LINE__);
+    misses(&it, 0, 0);
+    gives(&it, 0, p->slice_unit, .first = 10, .last = 10, .extra = SLICE);
+    counts(&it, .taken = 4, .lost = 1, .late = 1, .units = 3, .whole = 1);
+    h26x_access_units_free(it.u);
+}
+
+/* ---- With what a decoder can begin ---- */
+
+/* An IDR that bears no parameter set, for a decoder that may have none. */
+static void check_keyframe_without_sets(struct tally *t, const struct packets *p)
+{
+    const size_t sets = sets_of(p);
+    struct receiving it = receiver_without_sets(t, p);
+    holds(&it, 0, 10, 0, true, p->key);
+    gives(&it, 0, p->key_unit, .first = 10, .last = 10, .extra = KEY);
+    holds(&it, 0, 11, 3000, true, p->key);
+    gives(&it, 0, p->key_unit, .timestamp = 3000, .first = 11, .last = 11, .extra = KEY, .is_whole = true);
+    h26x_access_units_free(it.u);
+
+    /* One set is left out. */
+    for (size_t left_out = 0; left_out <= sets; left_out++) {
+        uint16_t number = 20;
+        uint8_t to[200];
+        h26x_access_unit unit;
+        it = receiver_without_sets(t, p);
+        for (size_t i = 0; i < sets; i++)
+            if (i != left_out)
+                holds(&it, 0, number++, 0, false, p->sets[i]);
+        holds(&it, 0, number, 0, true, p->key);
+        expect(t, h26x_access_units_next(&it.u, 0, to, sizeof to, &unit) == H26X_OK);
+        expect(t, unit.extra == KEY && unit.is_clean == (left_out == sets));
+        h26x_access_units_free(it.u);
+    }
+}
+
+/* A first slice is looked for among 64 units. */
+static void check_many_units(struct tally *t)
+{
+    for (uint16_t others = 63; others <= 64; others++) {
+        struct receiving it = receiver_of(t, settings(H26X_H264));
+        uint8_t to[1000];
+        h26x_access_unit unit;
+        for (uint16_t i = 0; i < others; i++) {
+            holds(&it, 0, i, 0, false, "0605");
+            gives_none(&it, 0);
+        }
+        holds(&it, 0, others, 0, true, "6588");
+        expect(t, h26x_access_units_next(&it.u, 0, to, sizeof to, &unit) == H26X_OK);
+        expect(t, unit.extra == KEY && unit.is_clean == (others == 63));
+        h26x_access_units_free(it.u);
+    }
+}
+
+/* Sets that came in access units before, in order; and where a number is missing since. */
+static void check_sets_before(struct tally *t, const struct packets *p)
+{
+    const uint16_t sets = (uint16_t)sets_of(p);
+    for (uint16_t gap = 0; gap < 2; gap++) {
+        struct receiving it = receiver_without_sets(t, p);
+        for (uint16_t i = 0; i < sets; i++) {
+            uint8_t to[64];
+            h26x_access_unit unit;
+            holds(&it, 0, (uint16_t)(20 + i), i, true, p->sets[i]);
+            expect(t, h26x_access_units_next(&it.u, 0, to, sizeof to, &unit) == H26X_OK && !unit.is_clean);
+        }
+        const uint16_t slice = 20 + sets, key = slice + 1 + gap;
+        holds(&it, 0, slice, 3000, true, p->slice);
+        gives(&it, 0, p->slice_unit, .timestamp = 3000, .first = slice, .last = slice, .extra = SLICE,
+              .is_whole = true);
+        holds(&it, 0, key, 6000, true, p->key);
+        gives(&it, 100, p->key_unit, .timestamp = 6000, .missing = gap, .first = key, .last = key, .extra = KEY,
+              .is_whole = gap == 0, .is_clean = gap == 0);
+        holds(&it, 100, key + 1, 9000, true, p->slice);
+        gives(&it, 100, p->slice_unit, .timestamp = 9000, .first = key + 1, .last = key + 1, .extra = SLICE,
+              .is_whole = true, .is_clean = gap == 0);
+        h26x_access_units_free(it.u);
+    }
+}
+
+/* A keyframe behind a gap, with its sets; one whose marker is lost before it; and one whose first slice is. */
+static void check_keyframe_behind_gap(struct tally *t, const struct packets *p)
+{
+    struct receiving it = receiver_without_sets(t, p);
+    holds(&it, 0, 10, 0, false, p->slice);
+    gives_none(&it, 0);
+    const uint16_t count = holds_keyframe(&it, 0, 12, 3000, p), next = (uint16_t)(12 + count);
+    gives(&it, 100, p->slice_unit, .first = 10, .last = 10, .extra = SLICE);
+    gives(&it, 100, p->keyframe_units, .timestamp = 3000, .missing = 1, .first = 12, .last = (uint16_t)(next - 1),
+          .extra = KEY, .is_clean = true);
+    gives_none(&it, 100);
+    counts(&it, .taken = 1u + count, .lost = 1, .units = 2);
+    h26x_access_units_free(it.u);
+
+    it = receiver_of(t, settings(p->codec));
+    holds(&it, 0, 10, 0, true, p->key);
+    gives(&it, 0, p->key_unit, .first = 10, .last = 10, .extra = KEY, .is_clean = true);
+    holds(&it, 0, 12, 3000, true, p->later);
+    gives(&it, 100, p->later_unit,
+          .timestamp = 3000, .missing = 1, .first = 12, .last = 12, .extra = KEY);
+    /* One of the same timestamp behind missing numbers doesn't go on with what the marker ended. */
+    holds(&it, 100, 13, 6000, true, p->slice);
+    holds(&it, 100, 15, 6000, true, p->key);
+    gives(&it, 100, p->slice_unit, .timestamp = 6000, .first = 13, .last = 13, .extra = SLICE, .is_whole = true);
+    gives(&it, 200, p->key_unit, .timestamp = 6000, .missing = 1, .first = 15, .last = 15, .extra = KEY,
+          .is_clean = true);
+    /* And one that goes on with it is none with which a decoder begins. */
+    holds(&it, 200, 16, 9000, true, p->later);
+    holds(&it, 200, 17, 9000, true, p->key);
+    gives(&it, 200, p->later_unit,
+          .timestamp = 9000, .first = 16, .last = 16, .extra = KEY, .is_whole = true, .is_clean = true);
+    gives(&it, 200, p->key_unit, .timestamp = 9000, .first = 17, .last = 17, .extra = KEY, .is_clean = true,
+          .continues = true);
+    h26x_access_units_free(it.u);
+
+    it = receiver_of(t, settings(p->codec));
+    holds(&it, 0, 10, 0, true, p->later);
+    holds(&it, 0, 11, 0, true, p->key);
+    gives(&it, 0, p->later_unit,
+          .first = 10, .last = 10, .extra = KEY);
+    gives(&it, 0, p->key_unit, .first = 11, .last = 11, .extra = KEY, .continues = true);
+    h26x_access_units_free(it.u);
+}
+
+/* ---- Pictures to which no other refers ---- */
+
+/* A keyframe with a sequence parameter set, a picture in two packets between which one is missing, and the next one, of
+ * which it is told whether it is clean. */
+static void check_damaged_picture(struct tally *t, uint32_t codec, const char *sps, const char *key,
+                                  const char *picture, const char *slice, bool is_disposable)
+{
+    struct receiving it = receiver_of(t, settings(codec));
+    uint8_t to[64];
+    h26x_access_unit unit;
+    if (sps != NULL)
+        holds(&it, 0, 9, 0, false, sps);
+    holds(&it, 0, 10, 0, true, key);
+    expect(t, h26x_access_units_next(&it.u, 0, to, sizeof to, &unit) == H26X_OK);
+    expect(t, unit.is_clean && !unit.is_disposable);
+    holds(&it, 0, 11, 3000, true, picture);
+    expect(t, h26x_access_units_next(&it.u, 0, to, sizeof to, &unit) == H26X_OK);
+    expect(t, unit.is_whole && unit.is_clean && unit.is_disposable == is_disposable);
+    holds(&it, 0, 12, 6000, false, picture);
+    holds(&it, 0, 14, 6000, true, slice);
+    expect(t, h26x_access_units_next(&it.u, 100, to, sizeof to, &unit) == H26X_OK);
+    expect(t, unit.missing == 1 && !unit.is_whole && !unit.is_clean && unit.is_disposable == is_disposable);
+    holds(&it, 100, 15, 9000, true, slice);
+    expect(t, h26x_access_units_next(&it.u, 100, to, sizeof to, &unit) == H26X_OK);
+    expect(t, unit.is_whole && !unit.is_disposable && unit.is_clean == is_disposable);
+    /* Where all of one is missing nobody knows what it was. */
+    holds(&it, 100, 17, 12000, true, slice);
+    expect(t, h26x_access_units_next(&it.u, 200, to, sizeof to, &unit) == H26X_OK);
+    expect(t, !unit.is_whole && !unit.is_clean);
+    /* Nor in H.265 how many temporal layers there are since. */
+    holds(&it, 200, 18, 15000, true, picture);
+    expect(t, h26x_access_units_next(&it.u, 200, to, sizeof to, &unit) == H26X_OK);
+    expect(t, unit.is_whole && unit.is_disposable == (is_disposable && codec != H26X_H265));
+    h26x_access_units_free(it.u);
+}
+
+static void check_disposable(struct tally *t, const struct packets *p)
+{
+    const char *sps = p->sets[p->codec == H26X_H265 ? 1 : 0];
+    check_damaged_picture(t, p->codec, sps, p->key, p->unreferenced, p->slice, true);
+    check_damaged_picture(t, p->codec, sps, p->key, p->slice, p->slice, false);
+}
+
+/* By the highest temporal layer of H.265, and by a picture header of H.266. */
+static void check_disposable_of_codecs(struct tally *t)
+{
+    const uint32_t h265 = H26X_H265, h266 = H26X_H266;
+    /* Two temporal layers: TRAIL_N of the lower one may be referred to by the upper one. */
+    check_damaged_picture(t, h265, "420103", "2601ac", "0001d0", "0201d0", false);
+    check_damaged_picture(t, h265, "420103", "2601ac", "0002d0", "0201d0", true);
+    check_damaged_picture(t, h265, "420103", "2601ac", "0202d0", "0201d0", false);
+    check_damaged_picture(t, h265, "42010d", "2601ac", "0006d0", "0201d0", false);
+    check_damaged_picture(t, h265, "42010d", "2601ac", "0007d0", "0201d0", true);
+    /* TSA_N, STSA_N, RADL_N, RASL_N; no sequence parameter set; type 10, which is reserved. */
+    check_damaged_picture(t, h265, "420101", "2601ac", "0401d0", "0201d0", true);
+    check_damaged_picture(t, h265, "420101", "2601ac", "0801d0", "0201d0", true);
+    check_damaged_picture(t, h265, "420101", "2601ac", "0c01d0", "0201d0", true);
+    check_damaged_picture(t, h265, "420101", "2601ac", "1001d0", "0201d0", true);
+    check_damaged_picture(t, h265, NULL, "2601ac", "0001d0", "0201d0", false);
+    check_damaged_picture(t, h265, "420101", "2601ac", "1401d0", "0201d0", false);
+    /* In an aggregate: a picture header, and a slice without one; ph_non_ref_pic_flag is its second bit. */
+    const char *key = "00e10003 009980 0003 004140";
+    check_damaged_picture(t, h266, "007900", key, "00e10003 009940 0003 000140", "0001c0", true);
+    check_damaged_picture(t, h266, "007900", key, "00e10003 009900 0003 000140", "0001c0", false);
+    check_damaged_picture(t, h266, "007900", "0041c0", "000160", "0001c0", false);
+    /* A keyframe isn't disposable, whatever it says. */
+    check_damaged_picture(t, H26X_H264, "6742c01f", "0588", "019a", "619a", true);
+    check_damaged_picture(t, h266, "007900", "0041e0", "0001e0", "0001c0", true);
+}
+
+/* ---- What stands first in an access unit ---- */
+
+/* Whether an access unit of two packets from a number on is whole, which begins with a unit. */
+static bool is_whole_from(struct receiving *it, const struct packets *p, uint16_t number, const char *first)
+{
+    const uint32_t now = number * 100u;
+    uint8_t to[64];
+    h26x_access_unit unit;
+    holds(it, now, number, number, false, first);
+    holds(it, now, number + 1, number, true, p->slice);
+    expect(it->tally, h26x_access_units_next(&it->u, now + 100, to, sizeof to, &unit) == H26X_OK);
+    expect(it->tally, unit.first == number && unit.last == number + 1 && unit.is_clean == (first == p->key));
+    return unit.is_whole;
+}
+
+/* A unit begins the first access unit, one behind a missing number, the first of a stream that goes on behind an end or
+ * begins anew, and the first of another sender: whether each is whole. */
+static void check_front(struct tally *t, const struct packets *p, const char *first, bool of_first, bool of_later)
+{
+    h26x_access_units_config config = settings(p->codec);
+    config.far_away = 1000;
+    struct receiving it = receiver_of(t, config);
+    expect(t, is_whole_from(&it, p, 10, first) == of_first);
+    expect(t, is_whole_from(&it, p, 13, first) == of_later);
+    expect(t, h26x_access_units_finish(&it.u) == H26X_OK);
+    gives_none(&it, 1400);
+    expect(t, is_whole_from(&it, p, 20, first) == of_later);
+    pushes(&it, 2200, 20000, 6000, false, first, H26X_STRAY, 0);
+    pushes(&it, 2200, 20001, 6000, true, p->slice, H26X_ANEW, 0);
+    uint8_t to[64];
+    h26x_access_unit unit;
+    expect(t, h26x_access_units_next(&it.u, 2200, to, sizeof to, &unit) == H26X_OK);
+    expect(t, unit.first == 20000 && unit.is_whole == of_later);
+    expect(t, h26x_access_units_restart(&it.u) == H26X_OK);
+    expect(t, is_whole_from(&it, p, 30, first) == of_first);
+    h26x_access_units_free(it.u);
+}
+
+static void check_fronts(struct tally *t, const struct packets *p)
+{
+    const char *sps = p->sets[p->codec == H26X_H265 ? 1 : 0], *pps = p->sets[sets_of(p) - 1];
+    check_front(t, p, p->delimiter, true, true);
+    check_front(t, p, sps, p->codec != H26X_H265, false);
+    check_front(t, p, pps, false, false);
+    check_front(t, p, p->slice, false, false);
+    check_front(t, p, p->key, false, false);
+    if (p->codec == H26X_H264)
+        return;
+    const bool is_h265 = p->codec == H26X_H265;
+    check_front(t, p, is_h265 ? "40010c" : "007100", true, false);
+    /* No header has a temporal layer of 0: these are neither delimiters nor parameter sets. */
+    check_front(t, p, is_h265 ? "460050" : "00a028", false, false);
+    check_front(t, p, is_h265 ? "40000c" : "007000", false, false);
+}
+
+/* ---- What is refused ---- */
 
 /* Settings for which there is no receiver. */
 static void check_refused_settings(struct tally *t)
@@ -522,6 +933,7 @@ static void check_other_ends(struct tally *t, void *at)
     expect(t, !h26x_access_units_deadline(&u, &tick) && tick == 99);
     expect(t, h26x_access_units_missing(&u, numbers, 2, &count) == H26X_WRONG_END);
     expect(t, count == 0 && numbers[0] == 7);
+    expect(t, h26x_access_units_begin_at(&u, 1, &pushed) == H26X_WRONG_END && pushed == 99);
     expect(t, h26x_access_units_finish(&u) == H26X_WRONG_END);
     expect(t, h26x_access_units_restart(&u) == H26X_WRONG_END);
     expect(t, h26x_access_units_count(&u, &told) == H26X_WRONG_END && told.taken == 9);
@@ -581,9 +993,9 @@ static void check_ends(struct tally *t)
     check_other_ends(t, p.at);
     check_other_ends(t, d.at);
     check_other_ends(t, r.at.at);
-    holds(&it, 0, 10, 0, true, "260101");
+    holds(&it, 0, 10, 0, true, "2601ac");
     check_as_other_ends(t, it.u.at);
-    gives(&it, 100, "00000001 260101", .first = 10, .last = 10, .extra = KEY);
+    gives(&it, 100, "00000001 2601ac", .first = 10, .last = 10, .extra = KEY, .is_clean = true);
     h26x_access_units_free(it.u);
     h26x_access_units_free((h26x_access_units){NULL});
     h26x_access_units_close(NULL);
@@ -605,7 +1017,17 @@ void check_access_units(struct tally *t)
         check_room(t, &all_packets[i]);
         check_left_out(t, &all_packets[i]);
         check_settings(t, &all_packets[i]);
+        check_first_keyframe(t, &all_packets[i]);
+        check_reordered_start(t, &all_packets[i]);
+        check_told_number(t, &all_packets[i]);
+        check_keyframe_without_sets(t, &all_packets[i]);
+        check_sets_before(t, &all_packets[i]);
+        check_keyframe_behind_gap(t, &all_packets[i]);
+        check_disposable(t, &all_packets[i]);
+        check_fronts(t, &all_packets[i]);
     }
+    check_disposable_of_codecs(t);
+    check_many_units(t);
     check_refused_settings(t);
     check_ends(t);
 }

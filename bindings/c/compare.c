@@ -39,8 +39,8 @@
     X(receiver_clone) X(receiver_set_numbers) X(receiver_set_avc) X(receive) X(receiver_restart)   \
     X(receiver_skip) X(receiver_run_len) X(h265_shown) X(h265_part_copy) X(access_units_push)      \
     X(access_units_skip) X(access_units_next) X(access_units_deadline) X(access_units_missing)     \
-    X(access_units_finish) X(access_units_restart) X(access_units_count) X(sdp_answer)             \
-    X(sdp_codec) X(sdp_write) X(sdp_value) X(sdp_number) X(sdp_units) X(sdp_unit) X(sdp_other)     \
+    X(access_units_begin_at) X(access_units_finish) X(access_units_restart) X(access_units_count)  \
+    X(sdp_answer) X(sdp_codec) X(sdp_write) X(sdp_value) X(sdp_number) X(sdp_units) X(sdp_unit) X(sdp_other)     \
     X(sdp_max_don_diff) X(sdp_constraints) X(sdp_capability_points)
 
 struct library {
@@ -105,7 +105,7 @@ struct held {
     void *at[2];
 };
 
-enum { HELD = 8, ENDS = 512, MISSING = 64, POINTS = 3, NUMBERS = 35 };
+enum { HELD = 8, ENDS = 512, MISSING = 64, POINTS = 3, NUMBERS = 36 };
 
 static struct held held[HELD];
 
@@ -381,6 +381,8 @@ static uint64_t receives_units(int s, const struct drawn *d, struct answer *a, s
     case CALL_access_units_missing:
         return l->access_units_missing(U, d->has_to ? a->missing : NULL, d->x % 3 ? d->y % MISSING : 0,
                                        WANTED(0, &o->count));
+    case CALL_access_units_begin_at:
+        return l->access_units_begin_at(U, d->sequence, WANTED(4, &o->number));
     case CALL_access_units_finish:
         return l->access_units_finish(U);
     case CALL_access_units_restart:
@@ -396,10 +398,12 @@ static h26x_access_units_config config_of(const struct drawn *d)
     return (h26x_access_units_config){
         .codec = d->codec,
         .max_wait = d->x % 4 == 0 ? UINT32_MAX : d->y % 200,
+        .begin_wait = d->z % 3 == 0 ? 0 : d->z % 7 == 0 ? UINT32_MAX : d->x % 200,
         .window = d->x % 7 == 0 ? d->y & 0xffff : 1 + d->y % 8,
         .far_away = d->z % 2 ? 0 : 1 + d->z % 300,
         .numbers = d->numbers,
         .avc = d->avc,
+        .has_sets = d->y % 3 == 0,
         .held_limit = d->z % 5 ? SIZE_MAX : d->x % 3000,
         .run_limit = d->y % 5 ? SIZE_MAX : d->z % 2000,
         .unit_limit = d->x % 5 ? SIZE_MAX : d->z % 4000,
@@ -610,7 +614,7 @@ static void *give(int s, const struct drawn *d)
         o.why.first ^ (uint64_t)o.why.second << 32,
         (uint64_t)o.shown.kind << 32 | (uint64_t)o.shown.header << 16 | o.shown.word, o.shown.parts,
         unit->len, unit->timestamp, unit->missing, unit->first, unit->last, unit->extra, unit->is_whole,
-        unit->is_clean, unit->continues, counts->taken, counts->lost, counts->late, counts->twice,
+        unit->is_clean, unit->is_disposable, unit->continues, counts->taken, counts->lost, counts->late, counts->twice,
         counts->stray, counts->refused, counts->skipped, counts->anew, counts->units, counts->whole,
         counts->units_given_up, counts->texts_given_up, o.said.flags, o.said.len,
         (uint64_t)o.said.frame_only << 2 | (uint64_t)o.said.multilayer << 1 | o.said.general, folded(&o.points[0]),

@@ -606,6 +606,20 @@ static void check_access_units_missing(void)
     hands_on(h26x_access_units_missing(&access_units, given.numbers, given.numbers_room, given.first));
 }
 
+STUB(access_units_begin_at);
+uint32_t proved_access_units_begin_at(h26x_access_units *u, uint16_t sequence, uint32_t *in_time)
+{
+    expect(u == &access_units && sequence == (uint16_t)given.value);
+    is_output(in_time, given.number);
+    return answer();
+}
+
+static void check_access_units_begin_at(void)
+{
+    give(NUMBER);
+    hands_on(h26x_access_units_begin_at(&access_units, (uint16_t)given.value, given.number));
+}
+
 STUB(access_units_count);
 uint32_t proved_access_units_count(const h26x_access_units *u, h26x_access_units_counts *counts)
 {
@@ -1039,6 +1053,7 @@ int main(void)
     in_each_case(check_access_units_next);
     in_each_case(check_access_units_deadline);
     in_each_case(check_access_units_missing);
+    in_each_case(check_access_units_begin_at);
     in_each_case(check_access_units_count);
     in_each_case(check_h265_part_copy);
     in_each_case(check_h265_paci_packet);

@@ -197,8 +197,9 @@ static void check_sending(uint32_t codec, size_t unit)
     held_most = 0;
     for (int i = 0; i < 3; i++)
         if (h26x_packetize(&p, 1200, payload, PAYLOAD, &count) != H26X_OK
-            || h26x_packetize_into(&p, 1200, payload, PAYLOAD, 0, placed, sizeof placed, ends, sizeof ends / sizeof *ends,
-                                   &placed_count, &size) != H26X_OK
+            || h26x_packetize_into(&p, 1200, payload, PAYLOAD, 0, placed, sizeof placed, ends,
+                                   sizeof ends / sizeof *ends, &placed_count, &size)
+                != H26X_OK
             || placed_count != count || count < PAYLOAD / 1200)
             exit(1);
     const size_t most = SENT_MOST + SMALL;

@@ -507,7 +507,8 @@ static void receive_without_memory(void)
 static void refuse_receiving_units(const struct codec *c)
 {
     const h26x_access_units_config config = {
-        .codec = c->number, .max_wait = 50, .window = 8, .held_limit = ROOM, .run_limit = ROOM, .unit_limit = ROOM};
+        .codec = c->number, .max_wait = 50, .begin_wait = UINT32_MAX, .window = 16, .held_limit = ROOM,
+        .run_limit = ROOM, .unit_limit = ROOM};
     h26x_packetizer p;
     h26x_access_units u = {NULL};
     h26x_access_unit told = {.len = 9};
@@ -520,6 +521,8 @@ static void refuse_receiving_units(const struct codec *c)
     expect(h26x_packetize(&p, LIMIT, unit, c->unit_header + DATA, &count) == H26X_OK && count == 4);
     refuse_each(h26x_access_units_new(&config, &u), u.at == NULL);
     without_memory(h26x_access_units_next(&u, 0, to, ROOM, &told) == H26X_NOTHING_YET);
+    without_memory(h26x_access_units_begin_at(&u, 9, &at) == H26X_OK && at == 1);
+    without_memory(h26x_access_units_restart(&u) == H26X_OK);
     for (size_t i = count; i-- > 0;) {
         const size_t len = h26x_packet_copy(&p, i, packet, sizeof packet);
         pushed = behind = 9;
@@ -528,10 +531,11 @@ static void refuse_receiving_units(const struct codec *c)
         expect(pushed == H26X_HELD && behind == 0);
     }
     pushed = 9;
-    refuse_each(h26x_access_units_skip(&u, 7, 16, &pushed, &behind), pushed == 9);
+    refuse_each(h26x_access_units_skip(&u, 7, 20, &pushed, &behind), pushed == 9);
     refuse_each(h26x_access_units_missing(&u, numbers, 8, &missing), missing == 0 && numbers[0] == 9);
-    expect(missing == 6 && numbers[0] == 6 && numbers[4] == 14 && numbers[5] == 15);
+    expect(missing == 6 && numbers[0] == 14 && numbers[5] == 19);
     without_memory(h26x_access_units_deadline(&u, &at) && at == 57);
+    without_memory(h26x_access_units_begin_at(&u, 9, &at) == H26X_OK && at == 0);
     refuse_each(h26x_access_units_next(&u, 57, to, ROOM, &told), told.len == 9);
     expect(told.len == wanted && memcmp(to + wanted - c->unit_header - DATA, unit, c->unit_header + DATA) == 0);
 
@@ -544,6 +548,26 @@ static void refuse_receiving_units(const struct codec *c)
     without_memory(h26x_access_units_finish(&u) == H26X_OK);
     without_memory(h26x_access_units_count(&u, &counts) == H26X_OK && counts.taken == 5 && counts.units == 2);
     h26x_packetizer_free(p);
+    h26x_access_units_free(u);
+}
+
+/* An access unit that ends behind a missing number, and the one that begins there. */
+static void refuse_ending_behind_missing(const struct codec *c)
+{
+    const h26x_access_units_config config = {
+        .codec = c->number, .max_wait = 50, .window = 8, .held_limit = ROOM, .run_limit = ROOM, .unit_limit = ROOM};
+    h26x_access_units u = {NULL};
+    h26x_access_unit told = {.first = 9};
+    h26x_access_units_counts counts;
+    expect(h26x_access_units_new(&config, &u) == H26X_OK);
+    refuse_each(h26x_access_units_push(&u, 0, 10, 3000, false, unit, 9, NULL, NULL), true);
+    expect(h26x_access_units_next(&u, 0, to, ROOM, &told) == H26X_NOTHING_YET);
+    refuse_each(h26x_access_units_push(&u, 0, 12, 6000, true, unit, 9, NULL, NULL), true);
+    refuse_each(h26x_access_units_next(&u, 50, to, ROOM, &told), told.first == 9);
+    expect(told.first == 10 && told.len == 13 && told.missing == 0);
+    refuse_each(h26x_access_units_next(&u, 50, to, ROOM, &told), told.first == 10);
+    expect(told.first == 12 && told.len == 13 && told.missing == 1);
+    expect(h26x_access_units_count(&u, &counts) == H26X_OK && counts.taken == 2 && counts.lost == 1);
     h26x_access_units_free(u);
 }
 
@@ -706,6 +730,7 @@ int main(void)
         refuse_receiving_sequenced(c);
         refuse_keeping(c);
         refuse_receiving_units(c);
+        refuse_ending_behind_missing(c);
         refuse_giving_back(c);
         look_without_memory(c);
     }

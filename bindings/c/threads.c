@@ -82,6 +82,7 @@ static h26x_access_units units_of(const struct codec *c)
 {
     const h26x_access_units_config config = {.codec = c->number,
                                              .max_wait = 100,
+                                             .begin_wait = UINT32_MAX,
                                              .window = PACKETS,
                                              .held_limit = SIZE_MAX,
                                              .run_limit = UNIT,
@@ -158,7 +159,8 @@ static void ask_shared_ends(const struct shared *s, const struct codec *c)
     uint16_t numbers[2];
     uint32_t at;
     expect(h26x_access_units_deadline(&s->waiting, &at) && at == 107);
-    expect(h26x_access_units_missing(&s->waiting, numbers, 2, &count) == H26X_OK && count == PACKETS);
+    expect(h26x_access_units_missing(&s->waiting, numbers, 2, &count) == H26X_OK && count == 1);
+    expect(numbers[0] == 8);
     expect(h26x_access_units_count(&s->waiting, &counts) == H26X_OK && counts.taken == 0);
     expect(h26x_packet_count(&s->packets) > 2 && h26x_packets_len(&s->packets) > UNIT);
     expect(h26x_packet_len(&s->packets, 1) == sizeof packet);

@@ -8,11 +8,10 @@
  * padding alone. It sends again what it is asked for (NACK; RFC 4585, 6.2.1), and loses that too.
  *
  * The recorder waits for packets that are missing, and asks for them until they come. It writes an
- * access unit to OUT where nothing is missing in it, nor since a keyframe; else it asks for a
- * keyframe (PLI; RFC 4585, 6.3.1), which this sender, who has no encoder, only counts. Nobody knows
- * whether a packet was sent before the first that comes, so the recording begins with the second
- * keyframe. It is compared with the stream, whose parameter sets must stand as udp.c has it. Ends
- * with status 1 where anything differs. */
+ * access unit to OUT where a decoder can show it, from the first keyframe on; else it asks for a
+ * keyframe (PLI; RFC 4585, 6.3.1), which this sender, who has no encoder, only counts. The recording
+ * is compared with the stream, whose parameter sets must stand as udp.c has it. Ends with status 1
+ * where anything differs. */
 #define _GNU_SOURCE
 #include "access_units.h"
 #include "ends.h"
@@ -29,9 +28,10 @@
 #include <time.h>
 #include <unistd.h>
 
-/* In milliseconds: for how long a packet that is missing is waited for, how often it is asked for,
- * and for how long nothing comes where a stream is over; for how long the sender is patient. */
-enum { MAX_WAIT = 2000, ASK_EACH = 20, SILENCE = 500, PATIENCE = 10000 };
+/* In milliseconds: for how long a packet that is missing is waited for, and at the beginning one
+ * before the first that came; how often it is asked for, and for how long nothing comes where a
+ * stream is over; for how long the sender is patient. */
+enum { MAX_WAIT = 2000, BEGIN_WAIT = 20, ASK_EACH = 20, SILENCE = 500, PATIENCE = 10000 };
 
 /* Of how many packets one is lost, or comes behind the next one; packets of padding at a time. */
 enum { OF = 10, PADDINGS = 3 };
@@ -196,7 +196,6 @@ struct recorder {
     struct sockaddr_storage sender;
     socklen_t sender_len;
     uint32_t source;
-    uint16_t first;       /* the first number that came */
     bool has_come, asks;  /* whether one came, and whether a keyframe was asked for */
     uint32_t asked_at;    /* when packets were asked for */
     uint8_t *unit, *text; /* room for an access unit, and all that is recorded */
@@ -227,7 +226,6 @@ static bool take_datagram(struct recorder *r, uint32_t now, uint8_t *packet, siz
         packet[0] ^= HAS_PADDING;
     if (!rtp_read(packet, len, &header) || padding > len - RTP_HEADER)
         return true;
-    r->first = r->has_come ? r->first : header.sequence;
     r->has_come = true;
     r->source = header.source;
     const uint32_t code =
@@ -286,13 +284,12 @@ static bool take_units(struct recorder *r, uint32_t now)
     return true;
 }
 
-/* Asks for packets that are missing, but for those before the first that came, which may never have
- * been sent. */
+/* Asks for packets that are missing. */
 static bool ask_again(struct recorder *r, uint32_t now)
 {
     uint16_t numbers[ASKED];
     uint8_t packet[RTCP_ROOM];
-    size_t count = 0, from = 0, asked;
+    size_t count = 0, asked;
     if (now - r->asked_at < ASK_EACH)
         return true;
     r->asked_at = now;
@@ -300,9 +297,7 @@ static bool ask_again(struct recorder *r, uint32_t now)
         return fail("no memory");
     if (count > ASKED)
         count = ASKED;
-    while (from < count && (uint16_t)(numbers[from] - r->first) >= 0x8000)
-        from++;
-    for (; from < count; from += asked) {
+    for (size_t from = 0; from < count; from += asked) {
         const size_t len = rtcp_write_nack(packet, r->source, numbers + from, count - from, &asked);
         if (!say(r, packet, len))
             return false;
@@ -363,17 +358,17 @@ static bool is_keyframe(uint32_t codec, const uint8_t *at, size_t len)
     return false;
 }
 
-/* Whether the text is that of the stream from its second keyframe on. */
+/* Whether the text is that of the stream from its first keyframe on. */
 static bool is_recorded(const struct stream *s, const uint8_t *text, size_t len)
 {
-    size_t begin, end = 0, keyframes = 0, units;
+    size_t begin, end = 0, units;
     while (next_access_unit(s->codec, s->at, s->len, end, &begin, &end)) {
-        if (!is_keyframe(s->codec, s->at + begin, end - begin) || ++keyframes < 2)
+        if (!is_keyframe(s->codec, s->at + begin, end - begin))
             continue;
         const struct stream rest = {s->codec, s->at + begin, s->len - begin, s->limit};
         return is_text_of(&rest, text, len, &units);
     }
-    return fail("the stream has no second keyframe");
+    return fail("the stream has no keyframe");
 }
 
 static bool write_file(const char *name, const uint8_t *text, size_t len)
@@ -400,6 +395,7 @@ static bool make_recorder(uint32_t codec, int *sends, struct recorder *r)
 {
     const h26x_access_units_config config = {.codec = codec,
                                              .max_wait = MAX_WAIT,
+                                             .begin_wait = BEGIN_WAIT,
                                              .window = 512,
                                              .far_away = 3000,
                                              .held_limit = 8000000,

@@ -73,6 +73,10 @@ type AccessUnitConfig struct {
 	// MaxWait: a missing packet is waited for so many ticks at most after one behind it came. 0, or 2^32 - 1 and more:
 	// by the window alone; negative: not at all.
 	MaxWait int
+	// BeginWait: a packet that begins the stream, the first of all and that behind Finish, Restart or Anew, waits for those
+	// before it for so many ticks at most, and no longer than MaxWait and Window have it. 0 or negative: it doesn't wait,
+	// and those before it are late once Next was called; 2^32 - 1 and more: as long as these have it.
+	BeginWait int
 	// HeldLimit is how many bytes of payloads may wait; past that none is waited for. 0: 8,000,000.
 	HeldLimit int
 	// RunLimit is how many bytes of data an open unit may hold from a packet to the next. 0: 4,000,000.
@@ -83,6 +87,9 @@ type AccessUnitConfig struct {
 	DONL bool
 	// AVC: units are written behind lengths of four bytes, else behind 00 00 00 01.
 	AVC bool
+	// HasSets: the decoder has the parameter sets, as from the sprop-* of a session description, so that it can begin with
+	// a keyframe that bears none.
+	HasSets bool
 }
 
 // An AccessUnit is an access unit, and what is told of it.
@@ -92,11 +99,15 @@ type AccessUnit struct {
 	// Bytes is its units, each behind 00 00 00 01 or behind its length: none of which a packet is missing.
 	Bytes []byte
 	Extra CodecExtra
-	// IsWhole: it is known that nothing of it is missing.
+	// IsWhole: it is known that nothing of it is missing: its first packet follows the one before, or it begins with a
+	// delimiter, or is the first one and begins with its parameter sets.
 	IsWhole bool
-	// IsClean: nor is anything since a keyframe of which nothing is: a decoder that began there goes on. Where it is
-	// false ask the sender for a keyframe.
+	// IsClean: a decoder can show it. Nothing of it is missing, nor was since a keyframe that came from its first slice on
+	// with its parameter sets, in it or before it in order, or it is one. Disposable pictures may be missing in part. Where
+	// it is false ask the sender for a keyframe.
 	IsClean bool
+	// IsDisposable: no other picture refers to its own: those after it can be clean where it is damaged.
+	IsDisposable bool
 	// Continues: a marker ended one of its timestamp right before it, as where a peer sets the marker on each slice.
 	Continues bool
 	// First and Last are the numbers of the first packet that came of it and of the last.
@@ -169,10 +180,12 @@ func (c AccessUnitConfig) settings(codec Codec) C.h26x_access_units_config {
 	return C.h26x_access_units_config{
 		codec:      C.uint32_t(codec),
 		max_wait:   C.uint32_t(setting(c.MaxWait, math.MaxUint32, math.MaxUint32)),
+		begin_wait: C.uint32_t(setting(c.BeginWait, 0, math.MaxUint32)),
 		window:     C.uint16_t(setting(c.Window, 512, math.MaxUint16)),
 		far_away:   C.uint16_t(setting(c.Far, 3000, math.MaxUint16)),
 		numbers:    C.bool(c.DONL),
 		avc:        C.bool(c.AVC),
+		has_sets:   C.bool(c.HasSets),
 		held_limit: C.size_t(setting(c.HeldLimit, 8_000_000, math.MaxInt)),
 		run_limit:  C.size_t(setting(c.RunLimit, 4_000_000, math.MaxInt)),
 		unit_limit: C.size_t(setting(c.UnitLimit, 8_000_000, math.MaxInt)),
@@ -296,20 +309,21 @@ func (call *receivingUnits) next(now uint32, room []byte) C.uint32_t {
 // told is what the last call told of an access unit, with its bytes.
 func (call *receivingUnits) told(bytes []byte) AccessUnit {
 	return AccessUnit{
-		Timestamp: uint32(call.unit.timestamp),
-		Bytes:     bytes,
-		Extra:     CodecExtra(call.unit.extra),
-		IsWhole:   bool(call.unit.is_whole),
-		IsClean:   bool(call.unit.is_clean),
-		Continues: bool(call.unit.continues),
-		First:     uint16(call.unit.first),
-		Last:      uint16(call.unit.last),
-		Missing:   uint32(call.unit.missing),
+		Timestamp:    uint32(call.unit.timestamp),
+		Bytes:        bytes,
+		Extra:        CodecExtra(call.unit.extra),
+		IsWhole:      bool(call.unit.is_whole),
+		IsClean:      bool(call.unit.is_clean),
+		IsDisposable: bool(call.unit.is_disposable),
+		Continues:    bool(call.unit.continues),
+		First:        uint16(call.unit.first),
+		Last:         uint16(call.unit.last),
+		Missing:      uint32(call.unit.missing),
 	}
 }
 
-// Deadline is the tick at which to call Next at the latest, if packets wait and there is a MaxWait. Behind Close there is
-// none.
+// Deadline is the tick at which to call Next at the latest, if packets wait and there is a MaxWait, or for the packet that
+// begins the stream a BeginWait. Behind Close there is none.
 func (r *AccessUnitReceiver) Deadline() (tick uint32, ok bool) {
 	r.mu.RLock()
 	defer r.mu.RUnlock()
@@ -322,8 +336,8 @@ func (r *AccessUnitReceiver) Deadline() (tick uint32, ok bool) {
 }
 
 // Missing is the numbers that are missing before packets that wait, in order: those to ask the sender for again (NACK;
-// RFC 4585, 6.2.1). Of a stream that begins the first of them are those of the window before the first packet, which may
-// never have been sent. Its errors are ErrOutOfMemory and ErrClosed.
+// RFC 4585, 6.2.1). Of a stream that begins none is missing before the first packet that waits. Its errors are
+// ErrOutOfMemory and ErrClosed.
 func (r *AccessUnitReceiver) Missing() ([]uint16, error) {
 	r.mu.RLock()
 	defer r.mu.RUnlock()
@@ -340,6 +354,20 @@ func (r *AccessUnitReceiver) Missing() ([]uint16, error) {
 		return nil, err
 	}
 	return numbers, nil
+}
+
+// BeginAt says the number of the first packet of the stream, as a peer tells it (RTP-Info of RTSP, RFC 2326, 12.33):
+// packets from it on are waited for, those before it are late, and the first access unit is known to be whole where all of
+// it came. It answers whether it is said in time: once a packet came, or it was said, it changes nothing, nor behind Close.
+func (r *AccessUnitReceiver) BeginAt(sequence uint16) bool {
+	r.mu.Lock()
+	defer r.mu.Unlock()
+	if r.call == nil {
+		return false
+	}
+	told := new(C.uint32_t)
+	code := C.h26x_access_units_begin_at(&r.call.handle, C.uint16_t(sequence), told)
+	return code == C.H26X_OK && *told == 1
 }
 
 // Finish is for the end of a stream: all that waits is due, and once it was taken the open access unit ends, not known

@@ -21,15 +21,18 @@ func newAccessUnitReceiver(t testing.TB, codec h26x.Codec, config h26x.AccessUni
 	return r
 }
 
-// small is a window of 4 packets, a wait of 100 ticks and 20 bytes of payloads; no number is too far.
+// small is a window of 4 packets, a wait of 100 ticks, at the beginning too, and 20 bytes of payloads; no number is too
+// far, and the decoder has the parameter sets.
 func small() h26x.AccessUnitConfig {
-	return h26x.AccessUnitConfig{Window: 4, Far: -1, MaxWait: 100, HeldLimit: 20, RunLimit: 1000, UnitLimit: 1000}
+	return h26x.AccessUnitConfig{
+		Window: 4, Far: -1, MaxWait: 100, BeginWait: 100, HeldLimit: 20, RunLimit: 1000, UnitLimit: 1000, HasSets: true,
+	}
 }
 
-// pictures are units of a keyframe and of none, which are packets as they stand.
+// pictures are the first slices of a keyframe and of another picture, which are packets as they stand.
 func pictures(codec h26x.Codec) (key, slice []byte) {
 	units := many(map[h26x.Codec]string{
-		h26x.H264: "6501|6102", h26x.H265: "260101|020102", h26x.H266: "003901|000102",
+		h26x.H264: "6588|619a", h26x.H265: "2601ac|0201d0", h26x.H266: "0041c0|0001c0",
 	}[codec])
 	return units[0], units[1]
 }
@@ -109,10 +112,13 @@ func whole(unit h26x.AccessUnit) h26x.AccessUnit {
 	return unit
 }
 
-func clean(unit h26x.AccessUnit) h26x.AccessUnit {
+// start is one with which a decoder can begin; nobody knows whether one is missing before it.
+func start(unit h26x.AccessUnit) h26x.AccessUnit {
 	unit.IsClean = true
-	return whole(unit)
+	return unit
 }
+
+func clean(unit h26x.AccessUnit) h26x.AccessUnit { return start(whole(unit)) }
 
 func missing(unit h26x.AccessUnit, count uint32) h26x.AccessUnit {
 	unit.Missing = count
@@ -128,11 +134,11 @@ func TestPacketsMissingLateAndTwice(t *testing.T) {
 		pushes(t, r, 0xffff_fff0, 65534, 0, true, key, h26x.Held)
 		// Packets before the first may come still.
 		gives(t, r, 0xffff_fff0)
-		lacks(t, r, 65531, 65532, 65533)
+		lacks(t, r)
 		waits(t, r, 0x54)
 		gives(t, r, 0x53)
 		// Nobody knows whether one is missing before the first.
-		gives(t, r, 0x54, one(codec, 0, 65534, key))
+		gives(t, r, 0x54, start(one(codec, 0, 65534, key)))
 		waits(t, r, -1)
 		// The middle fragment comes last, the others twice.
 		pushes(t, r, 100, 65535, 3000, false, f.start, h26x.Held)
@@ -171,11 +177,11 @@ func TestMarkersOfPeers(t *testing.T) {
 		key, slice := pictures(codec)
 		pushes(t, r, 0, 10, 0, true, key, h26x.Held)
 		pushes(t, r, 0, 11, 3000, true, key, h26x.Held)
-		gives(t, r, 0, one(codec, 0, 10, key), clean(one(codec, 3000, 11, key)))
+		gives(t, r, 0, start(one(codec, 0, 10, key)), clean(one(codec, 3000, 11, key)))
 		pushes(t, r, 0, 12, 3000, true, slice, h26x.Held)
 		// Nothing is missing, but nobody knows whether the picture goes on again.
-		goesOn := one(codec, 3000, 12, slice)
-		goesOn.Continues, goesOn.IsClean = true, true
+		goesOn := start(one(codec, 3000, 12, slice))
+		goesOn.Continues = true
 		gives(t, r, 0, goesOn)
 		// The run that is open at the marker goes with it, and the last fragment is left alone.
 		pushes(t, r, 0, 13, 6000, false, f.start, h26x.Held)
@@ -204,7 +210,7 @@ func TestNumbersThatBearNothingInAUnit(t *testing.T) {
 		r, f := newAccessUnitReceiver(t, codec, config), fragmentsOf(codec)
 		key, slice := pictures(codec)
 		pushes(t, r, 0, 65533, 0, true, key, h26x.Held)
-		gives(t, r, 0, one(codec, 0, 65533, key))
+		gives(t, r, 0, start(one(codec, 0, 65533, key)))
 		pushes(t, r, 0, 65534, 3000, false, f.start, h26x.Held)
 		pushes(t, r, 0, 65535, 3000, true, nil, h26x.Held)
 		if pushed, behind, err := r.Skip(0, 0); pushed != h26x.Held || behind != 0 || err != nil {
@@ -236,7 +242,7 @@ func TestStraysAndAStreamThatBeginsAnew(t *testing.T) {
 		r := newAccessUnitReceiver(t, codec, config)
 		key, slice := pictures(codec)
 		pushes(t, r, 0, 10, 0, true, key, h26x.Held)
-		gives(t, r, 100, one(codec, 0, 10, key))
+		gives(t, r, 100, start(one(codec, 0, 10, key)))
 		// 11 is due: 110 is 99 ahead. So 111 is a stray, and is 10111, which takes its place.
 		pushes(t, r, 100, 111, 3000, true, slice, h26x.Stray)
 		pushes(t, r, 100, 10111, 3000, true, slice, h26x.Stray)
@@ -248,12 +254,13 @@ func TestStraysAndAStreamThatBeginsAnew(t *testing.T) {
 		pushes(t, r, 100, 45547, 6000, true, key, h26x.Stray)
 		pushes(t, r, 100, 45548, 9000, true, slice, h26x.Anew)
 		gives(t, r, 100, one(codec, 3000, 11, slice))
-		gives(t, r, 200, one(codec, 6000, 45547, key), whole(one(codec, 9000, 45548, slice)))
+		gives(t, r, 199)
+		gives(t, r, 200, start(one(codec, 6000, 45547, key)), clean(one(codec, 9000, 45548, slice)))
 		counts(t, r, h26x.Counts{Taken: 4, Lost: 1, Stray: 4, Anew: 1, Units: 4, Whole: 1})
 		// Where none is too far, one behind is late.
 		r = newAccessUnitReceiver(t, codec, small())
 		pushes(t, r, 0, 10, 0, true, key, h26x.Held)
-		gives(t, r, 100, one(codec, 0, 10, key))
+		gives(t, r, 100, start(one(codec, 0, 10, key)))
 		pushes(t, r, 100, 45547, 3000, true, key, h26x.PushedLate, 20000)
 	}
 }
@@ -290,13 +297,13 @@ func TestLimitsOfWhatIsOpen(t *testing.T) {
 		pushes(t, r, 0, 14, 3000, true, f.end, h26x.Held)
 		unit := one(codec, 3000, 11, slice)
 		unit.Last = 14
-		gives(t, r, 0, one(codec, 0, 10, key), unit)
+		gives(t, r, 0, start(one(codec, 0, 10, key)), unit)
 		counts(t, r, h26x.Counts{Taken: 5, Units: 2, UnitsGivenUp: 1})
 
 		config.RunLimit, config.UnitLimit = 1000, 2*len(annexB(slice))
 		r = newAccessUnitReceiver(t, codec, config)
 		pushes(t, r, 0, 10, 0, true, key, h26x.Held)
-		gives(t, r, 0, one(codec, 0, 10, key))
+		gives(t, r, 0, start(one(codec, 0, 10, key)))
 		for sequence := uint16(11); sequence < 14; sequence++ {
 			pushes(t, r, 0, sequence, 3000, false, slice, h26x.Held)
 			gives(t, r, 0)
@@ -317,7 +324,7 @@ func TestTheEndOfAStreamAndAnotherSender(t *testing.T) {
 		pushes(t, r, 0, 12, 3000, false, slice, h26x.Held)
 		gives(t, r, 0)
 		done(t, r.Finish())
-		gives(t, r, 0, one(codec, 0, 10, key), missing(one(codec, 3000, 12, slice), 1))
+		gives(t, r, 0, start(one(codec, 0, 10, key)), missing(one(codec, 3000, 12, slice), 1))
 		waits(t, r, -1)
 		// Any number is next, and then what waits is dropped.
 		pushes(t, r, 0, 40000, 6000, true, key, h26x.Held)
@@ -346,7 +353,7 @@ func TestRefusedPackets(t *testing.T) {
 		pushes(t, r, 0, 10, 0, true, key, h26x.Held)
 		pushes(t, r, 0, 11, 3000, true, refused[codec], h26x.Held)
 		pushes(t, r, 0, 12, 6000, true, slice, h26x.Held)
-		gives(t, r, 0, one(codec, 0, 10, key), missing(one(codec, 6000, 12, slice), 1))
+		gives(t, r, 0, start(one(codec, 0, 10, key)), missing(one(codec, 6000, 12, slice), 1))
 		counts(t, r, h26x.Counts{Taken: 2, Lost: 1, Refused: 1, Units: 2})
 	}
 }
@@ -359,16 +366,20 @@ func TestDefaultsOfSettings(t *testing.T) {
 	if r.Codec() != h26x.H264 {
 		t.Error("another codec")
 	}
-	pushes(t, r, 0, 1000, 0, true, key, h26x.Held)
+	// The first packet waits for none, and without parameter sets it isn't clean.
+	pushes(t, r, 7, 1000, 0, true, key, h26x.Held)
+	waits(t, r, 7)
+	gives(t, r, 7, first)
+	// 1512 is 510 ahead of the one behind which 1001 is missing, 1513 a window of 512, less one.
+	pushes(t, r, 7, 1002, 3000, true, slice, h26x.Held)
 	waits(t, r, -1)
-	// 1510 is 510 ahead of the first, 1511 a window of 512, less one.
-	pushes(t, r, 0xffff_ffff, 1510, 3000, true, slice, h26x.Held)
+	pushes(t, r, 0xffff_ffff, 1512, 6000, true, slice, h26x.Held)
 	gives(t, r, 0xffff_ffff)
-	pushes(t, r, 0xffff_ffff, 1511, 6000, true, slice, h26x.Held)
-	gives(t, r, 0xffff_ffff, first)
-	// The newest that waits is 1511: 4510 is 2999 ahead.
-	pushes(t, r, 0, 4511, 9000, true, slice, h26x.Stray)
-	pushes(t, r, 0, 4510, 9000, true, slice, h26x.Held)
+	pushes(t, r, 0xffff_ffff, 1513, 9000, true, slice, h26x.Held)
+	gives(t, r, 0xffff_ffff, missing(one(h26x.H264, 3000, 1002, slice), 1))
+	// The newest that waits is 1513: 4512 is 2999 ahead.
+	pushes(t, r, 0, 4513, 12000, true, slice, h26x.Stray)
+	pushes(t, r, 0, 4512, 12000, true, slice, h26x.Held)
 
 	r = newAccessUnitReceiver(t, h26x.H264, h26x.AccessUnitConfig{MaxWait: -1, Far: -1})
 	pushes(t, r, 5, 1000, 0, true, key, h26x.Held)
@@ -442,7 +453,7 @@ func TestSettingsThatAreRefused(t *testing.T) {
 			t.Errorf("%+v: a receiver", it.config)
 		}
 	}
-	for _, config := range []h26x.AccessUnitConfig{{Window: 1 << 14}, {Far: 1 << 20}, {MaxWait: 1<<31 - 1}} {
+	for _, config := range []h26x.AccessUnitConfig{{Window: 1 << 14}, {Far: 1 << 20}, {MaxWait: 1<<31 - 1}, {BeginWait: 1<<31 - 1}} {
 		newAccessUnitReceiver(t, h26x.H264, config)
 	}
 }
@@ -454,7 +465,7 @@ func TestFormsOfUnits(t *testing.T) {
 		r := newAccessUnitReceiver(t, codec, config)
 		pushes(t, r, 0, 1, 0, true, some(packet), h26x.Held)
 		unit := append(some(packet)[:2:2], 0xaa)
-		wanted := one(codec, 0, 1, unit)
+		wanted := start(one(codec, 0, 1, unit))
 		wanted.Bytes = append([]byte{0, 0, 0, 3}, unit...)
 		gives(t, r, 0, wanted)
 	}

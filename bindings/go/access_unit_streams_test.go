@@ -12,7 +12,8 @@ type sentUnit struct {
 	units       []placed
 }
 
-// sentUnits are the packets of a stream, and its access units, each of two slices with what is before them.
+// sentUnits are the packets of a stream, and its access units, each of two slices with what is before them, or of one where
+// parameter sets are behind that.
 func sentUnits(t *testing.T, codec h26x.Codec, mtu uint16) (packets [][]byte, all []sentUnit) {
 	t.Helper()
 	p, part, slices := newPacketizer(t, codec, false), [][]byte(nil), 0
@@ -27,6 +28,9 @@ func sentUnits(t *testing.T, codec h26x.Codec, mtu uint16) (packets [][]byte, al
 		all, part, slices = append(all, one), nil, 0
 	}
 	for _, unit := range sent(t, codec) {
+		if role := roleOf(codec, unit); slices > 0 && (role == vps || role == sps) {
+			send()
+		}
 		part = append(part, unit)
 		if isSlice(codec, unit) {
 			slices++
@@ -47,11 +51,110 @@ func isSlice(codec h26x.Codec, unit []byte) bool {
 	return kinds[0] <= typeOf(codec, unit) && typeOf(codec, unit) <= kinds[1]
 }
 
+// A role is what a unit is to a decoder: a letter of those below, or 0.
+type role byte
+
+const (
+	vps       role = 'v'
+	sps       role = 's'
+	pps       role = 'p'
+	header    role = 'h'
+	delimiter role = 'd'
+	slice     role = '_'
+)
+
+// roleOf is by the types of H.264, table 7-1, of H.265, table 7-1, and of H.266, table 5.
+func roleOf(codec h26x.Codec, unit []byte) role {
+	if isSlice(codec, unit) {
+		return slice
+	}
+	return map[h26x.Codec]map[byte]role{
+		h26x.H264: {7: sps, 8: pps, 9: delimiter},
+		h26x.H265: {32: vps, 33: sps, 34: pps, 35: delimiter},
+		h26x.H266: {14: vps, 15: sps, 16: pps, 19: header, 20: delimiter},
+	}[codec][typeOf(codec, unit)]
+}
+
+// A decoder is what is known of one that is given access units: whether it can go on, which parameter sets came to it
+// since something was missing, how many temporal layers these tell, and whether any access unit came.
+type decoder struct {
+	goesOn   bool
+	sets     map[role]bool
+	layers   byte
+	hasBegun bool
+}
+
+// takes gives it the units that came of an access unit: whether this follows the one before, with nothing missing between,
+// and whether nothing is missing in it from its first packet that came on.
+func (d *decoder) takes(codec h26x.Codec, units [][]byte, follows, isUnbroken bool) (isWhole, isClean, isDisposable bool) {
+	isWhole = isUnbroken && (follows || d.isFront(codec, units))
+	d.hasBegun = true
+	if !follows {
+		d.sets, d.layers = nil, 0
+	}
+	came, isFirst, isKeyframe, isUnreferenced := map[role]bool{}, false, false, false
+	for _, unit := range units {
+		it := roleOf(codec, unit)
+		came[it] = true
+		switch it {
+		case sps:
+			d.layers = 1
+			if codec == h26x.H265 {
+				d.layers = unit[2]>>1&7 + 1 // sps_max_sub_layers_minus1
+			}
+		case header: // of H.266: ph_non_ref_pic_flag
+			isFirst, isUnreferenced = true, unit[2]&0x40 > 0
+		case slice:
+			isKeyframe = isKey(codec, unit)
+			switch codec {
+			case h26x.H264: // first_mb_in_slice, nal_ref_idc
+				isFirst, isUnreferenced = unit[1] >= 0x80, unit[0]&0x60 == 0
+			case h26x.H265: // first_slice_segment_in_pic_flag; sub-layer non-reference pictures of the highest layer
+				isFirst, isUnreferenced = unit[2] >= 0x80, typeOf(codec, unit)%2 == 0 && unit[1]&7 == d.layers
+			default: // a picture header in the slice
+				if !came[header] {
+					isFirst, isUnreferenced = unit[2] >= 0x80, unit[2]&0xa0 == 0xa0
+				}
+			}
+		}
+		if it == slice {
+			break
+		}
+	}
+	isDisposable = isUnreferenced && !isKeyframe && came[slice]
+	for it := range d.sets {
+		came[it] = true
+	}
+	hasSets := came[sps] && came[pps] && (came[vps] || codec != h26x.H265)
+	d.goesOn = isUnbroken && isFirst && isKeyframe && hasSets || d.goesOn && follows && (isUnbroken || isDisposable)
+	d.sets = nil
+	if isUnbroken {
+		d.sets = map[role]bool{vps: came[vps], sps: came[sps], pps: came[pps]}
+	}
+	return isWhole, isUnbroken && d.goesOn, isDisposable
+}
+
+// isFront tells whether the first of units is one with which access units begin, or the first one.
+func (d *decoder) isFront(codec h26x.Codec, units [][]byte) bool {
+	if len(units) == 0 {
+		return false
+	}
+	switch roleOf(codec, units[0]) {
+	case delimiter:
+		return true
+	case vps:
+		return !d.hasBegun
+	case sps:
+		return codec != h26x.H265 && !d.hasBegun
+	default:
+		return false
+	}
+}
+
 // left is the access units that must be given out where these packets came, computed from these alone: of each what its
-// units are of which each packet came. It is whole where each came, with the one before, and clean since a whole
-// keyframe.
+// units are of which each packet came, and what a decoder can do with these.
 func left(codec h26x.Codec, all []sentUnit, came map[int]bool, numberOf func(int) uint16) (units []h26x.AccessUnit) {
-	before, isClean := -1, false
+	before, known := -1, decoder{}
 	for i, one := range all {
 		first, last, count := -1, -1, 0
 		for n := one.first; n <= one.last; n++ {
@@ -65,16 +168,22 @@ func left(codec h26x.Codec, all []sentUnit, came map[int]bool, numberOf func(int
 		if count == 0 {
 			continue
 		}
-		if before < 0 {
+		follows, isUnbroken := first == before+1 && len(units) > 0, count == one.last-first+1
+		if len(units) == 0 {
 			before = first - 1
 		}
 		unit := h26x.AccessUnit{
 			Timestamp: timestampOf(i), First: numberOf(first), Last: numberOf(last), Missing: uint32(last - before - count),
-			IsWhole: count == one.last-one.first+1 && came[one.first-1],
 		}
-		unit.Bytes, unit.Extra = textThatCame(codec, one, came)
-		isClean = unit.IsWhole && (unit.Extra == h26x.Keyframe || isClean)
-		unit.IsClean = isClean
+		var there [][]byte
+		for _, its := range one.units {
+			if isWhole(its, came) {
+				there = append(there, its.unit)
+			}
+			isUnbroken = isUnbroken && (first <= its.first || its.last < first)
+		}
+		unit.Bytes, unit.Extra = textOf(codec, there)
+		unit.IsWhole, unit.IsClean, unit.IsDisposable = known.takes(codec, there, follows, isUnbroken)
 		units, before = append(units, unit), last
 	}
 	return units
@@ -83,14 +192,11 @@ func left(codec h26x.Codec, all []sentUnit, came map[int]bool, numberOf func(int
 // timestampOf is that of an access unit: they go round in the middle of a stream.
 func timestampOf(unit int) uint32 { return 0xffff_0000 + uint32(unit)*3000 }
 
-func textThatCame(codec h26x.Codec, one sentUnit, came map[int]bool) (data []byte, told h26x.CodecExtra) {
+func textOf(codec h26x.Codec, units [][]byte) (data []byte, told h26x.CodecExtra) {
 	data = []byte{}
-	for _, unit := range one.units {
-		if !isWhole(unit, came) {
-			continue
-		}
-		data = append(data, text(false, unit.unit)...)
-		if isKey(codec, unit.unit) {
+	for _, unit := range units {
+		data = append(data, text(false, unit)...)
+		if isKey(codec, unit) {
 			told = h26x.Keyframe
 		} else if told == h26x.NoUnits {
 			told = h26x.NoKeyframe
@@ -102,15 +208,17 @@ func textThatCame(codec h26x.Codec, one sentUnit, came map[int]bool) (data []byt
 // Streams through losses, repeats and swaps, of which packets are waited for by a window, or for so many ticks.
 func TestAccessUnitsThroughLosses(t *testing.T) {
 	for _, codec := range codecs {
-		wholes, cleans := 0, 0
+		wholes, cleans, disposable := 0, 0, 0
 		for _, mtu := range mtus {
 			packets, all := sentUnits(t, codec, mtu)
 			for _, r := range []rates{{0, 0, 0}, {100, 0, 0}, {0, 200, 0}, {20, 50, 200}} {
-				for _, config := range []h26x.AccessUnitConfig{{Window: 16}, {MaxWait: 30}} {
-					given, whole, clean := 0, 0, 0
+				for _, config := range []h26x.AccessUnitConfig{{Window: 16, BeginWait: 1 << 20}, {MaxWait: 30, BeginWait: 30}} {
+					whole, clean := 0, 0
 					for seed := int64(0); seed < 10; seed++ {
 						for _, unit := range unitsThroughLosses(t, codec, config, packets, all, network(len(packets), r, seed)) {
-							given++
+							if unit.IsDisposable {
+								disposable++
+							}
 							if unit.IsWhole {
 								whole++
 							}
@@ -119,16 +227,16 @@ func TestAccessUnitsThroughLosses(t *testing.T) {
 							}
 						}
 					}
-					// Of the first nobody knows whether one was missing before it.
-					if most := 10 * (len(all) - 1); (whole < most) != (r.lost > 0) || given < whole+10 {
-						t.Errorf("%v, %d, %v: %d are given out, and %d of %d whole", codec, mtu, r, given, whole, most)
+					// The first begins with parameter sets, and is a keyframe.
+					if most := 10 * len(all); (whole < most) != (r.lost > 0) || (clean < most) != (r.lost > 0) {
+						t.Errorf("%v, %d, %v: of %d %d are whole, and %d clean", codec, mtu, r, most, whole, clean)
 					}
 					wholes, cleans = wholes+whole, cleans+clean
 				}
 			}
 		}
-		if cleans == 0 || cleans == wholes {
-			t.Errorf("%v: %d of %d are clean", codec, cleans, wholes)
+		if cleans == 0 || cleans == wholes || (disposable > 0) != (codec == h26x.H265) {
+			t.Errorf("%v: %d of %d are clean, %d disposable", codec, cleans, wholes, disposable)
 		}
 	}
 }

@@ -86,8 +86,8 @@ func (p RTPPacket) Equal(other RTPPacket) bool {
 // Equal tells whether both have the same bytes, and the same is told of them.
 func (u AccessUnit) Equal(other AccessUnit) bool {
 	return u.Timestamp == other.Timestamp && u.Extra == other.Extra && u.IsWhole == other.IsWhole &&
-		u.IsClean == other.IsClean && u.Continues == other.Continues && u.First == other.First &&
-		u.Last == other.Last && u.Missing == other.Missing && bytes.Equal(u.Bytes, other.Bytes)
+		u.IsClean == other.IsClean && u.IsDisposable == other.IsDisposable && u.Continues == other.Continues &&
+		u.First == other.First && u.Last == other.Last && u.Missing == other.Missing && bytes.Equal(u.Bytes, other.Bytes)
 }
 
 // Equal tells whether both are the same packet.

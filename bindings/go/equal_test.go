@@ -162,6 +162,7 @@ func TestEqualValues(t *testing.T) {
 		h26x.RTPPacket{Payload: one}, h26x.RTPPacket{Payload: two})
 	differ(t, h26x.AccessUnit{}, h26x.AccessUnit{Timestamp: 1}, h26x.AccessUnit{Bytes: one}, h26x.AccessUnit{Bytes: two},
 		h26x.AccessUnit{Extra: h26x.NoKeyframe}, h26x.AccessUnit{IsWhole: true}, h26x.AccessUnit{IsClean: true},
+		h26x.AccessUnit{IsDisposable: true},
 		h26x.AccessUnit{Continues: true}, h26x.AccessUnit{First: 1}, h26x.AccessUnit{Last: 1}, h26x.AccessUnit{Missing: 1})
 	differ(t, h26x.Part{}, h26x.Part{Bytes: one}, h26x.Part{Bytes: two}, h26x.Part{Number: -1})
 	differ(t, h26x.ShownPacket{}, h26x.ShownPacket{Kind: h26x.Single}, h26x.ShownPacket{Header: 1},

@@ -94,9 +94,9 @@ func ExampleReceiver() {
 	// some lost: true true
 }
 
-// Packets come in another order, and what is due is told by a time.
+// Packets come in another order, the first of all too, and what is due is told by a time.
 func ExampleAccessUnitReceiver() {
-	receiver, err := h26x.NewAccessUnitReceiver(h26x.H264, h26x.AccessUnitConfig{Window: 4, MaxWait: 100})
+	receiver, err := h26x.NewAccessUnitReceiver(h26x.H264, h26x.AccessUnitConfig{MaxWait: 100, BeginWait: 20})
 	if err != nil {
 		panic(err)
 	}
@@ -113,7 +113,7 @@ func ExampleAccessUnitReceiver() {
 	missing, _ := receiver.Missing()
 	deadline, _ := receiver.Deadline()
 	fmt.Println(missing, deadline)
-	for _, now := range []uint32{0, 100} {
+	for _, now := range []uint32{0, 20, 100} {
 		for {
 			unit, err := receiver.Next(now)
 			if err != nil {
@@ -121,17 +121,16 @@ func ExampleAccessUnitReceiver() {
 			} else if unit == nil {
 				break
 			}
-			fmt.Printf("%d: %x, %d missing, known to be whole: %v\n", unit.Timestamp, unit.Bytes, unit.Missing, unit.IsWhole)
+			fmt.Printf("%d: %d: %x, %d missing, known to be whole: %v\n", now, unit.Timestamp, unit.Bytes, unit.Missing, unit.IsWhole)
 		}
 	}
 	// Output:
-	// [5 6 9] 100
-	// 3000: 00000001650102, 0 missing, known to be whole: false
-	// 9000: 000000016109, 1 missing, known to be whole: false
+	// [9] 20
+	// 20: 3000: 00000001650102, 0 missing, known to be whole: false
+	// 100: 9000: 000000016109, 1 missing, known to be whole: false
 }
 
-// A recorder writes what can be decoded, and asks the sender for a keyframe where that isn't so: of the first nobody
-// knows whether a packet was sent before it.
+// A recorder writes what can be decoded, and asks the sender for a keyframe where that isn't so.
 func ExampleAccessUnitReceiver_recorder() {
 	stream, err := os.ReadFile("../streams/test_pictures.h264")
 	if err != nil {
@@ -142,7 +141,7 @@ func ExampleAccessUnitReceiver_recorder() {
 	some, asked := sendAndRecord(stream, 20)
 	fmt.Println("some lost:", 0 < some && some < whole, asked > 1)
 	// Output:
-	// nothing lost: 45 pictures, 1 times asked
+	// nothing lost: 50 pictures, 0 times asked
 	// some lost: true true
 }
 

@@ -75,7 +75,7 @@ func TestWhatIsClosedMakesNoCall(t *testing.T) {
 			t.Errorf("%s: %v", name, err)
 		}
 	}
-	if _, ok := u.Deadline(); ok || p.Payload(99, []byte{2, 1, 3}) != nil || r.RunLen() != 0 {
+	if _, ok := u.Deadline(); ok || u.BeginAt(1) || p.Payload(99, []byte{2, 1, 3}) != nil || r.RunLen() != 0 {
 		t.Error("a call is made")
 	}
 	for name, call := range closedCalls(new(h26x.Packetizer), new(h26x.Depacketizer), new(h26x.Receiver), new(h26x.AccessUnitReceiver)) {
@@ -211,7 +211,7 @@ func TestGoroutinesThatLook(t *testing.T) {
 // A number is taken once, and an access unit is given out once, in one piece, while others look.
 func TestGoroutinesOfAccessUnits(t *testing.T) {
 	const goroutines, packets = 4, 1000
-	u := newAccessUnitReceiver(t, h26x.H264, h26x.AccessUnitConfig{MaxWait: 1 << 20})
+	u := newAccessUnitReceiver(t, h26x.H264, h26x.AccessUnitConfig{MaxWait: 1 << 20, BeginWait: 1 << 20})
 	var group sync.WaitGroup
 	var mu sync.Mutex
 	given := map[uint16]int{}

@@ -49,7 +49,7 @@ func many(digits string) [][]byte {
 	return all
 }
 
-// fragments is a unit of a keyframe in three fragments of two bytes of data each (RFC 6184, 5.8; RFC 7798,
+// fragments is the first slice of a keyframe in three fragments of two bytes of data each (RFC 6184, 5.8; RFC 7798,
 // 4.4.3; RFC 9328, 4.3.3).
 type fragments struct {
 	start, middle, end, unit []byte
@@ -57,9 +57,9 @@ type fragments struct {
 
 func fragmentsOf(codec h26x.Codec) fragments {
 	f := map[h26x.Codec]string{
-		h26x.H264: "7c850102|7c050304|7c450506|65 010203040506",
-		h26x.H265: "6201930102|6201130304|6201530506|2601 010203040506",
-		h26x.H266: "00e9870102|00e9070304|00e9470506|0039 010203040506",
+		h26x.H264: "7c858802|7c050304|7c450506|65 880203040506",
+		h26x.H265: "6201938802|6201130304|6201530506|2601 880203040506",
+		h26x.H266: "00e9878802|00e9070304|00e9470506|0039 880203040506",
 	}[codec]
 	parts := many(f)
 	return fragments{parts[0], parts[1], parts[2], parts[3]}

@@ -83,10 +83,7 @@ func TestWantOfMemoryForWhatWaits(t *testing.T) {
 	refuses(t, err, h26x.ErrOutOfMemory)
 	sequence--
 	refuses(t, push(), h26x.ErrOutOfMemory)
-	// It names those before the first, where there is memory for that.
-	if numbers, err := u.Missing(); err == nil && len(numbers) != 1<<14-1 {
-		t.Errorf("%d are missing", len(numbers))
-	}
+	lacks(t, u)
 	done(t, u.Restart())
 	done(t, push())
 	done(t, u.Finish())

@@ -418,6 +418,8 @@ typedef struct {
     uint32_t codec;       /**< one of h26x_codec */
     uint32_t max_wait;    /**< a missing packet is waited for so long at most after one behind it came; UINT32_MAX: by the
                            * window alone */
+    uint32_t begin_wait;  /**< a packet that begins the stream waits for so long, and no longer than max_wait, for
+                           * those before it; 0: it doesn't */
     uint16_t window;      /**< packets missing before one that waits are waited for until one came so many places, less
                            * one, ahead of it; 1 to 16384 */
     uint16_t far_away;    /**< a number so far or farther ahead of the newest that waits (where none waits, of the one that
@@ -426,6 +428,8 @@ typedef struct {
                            * A.1, has 3000); 0: none is too far, and one behind is late */
     bool numbers;         /**< packets bear decoding order numbers (H.265 and H.266) */
     bool avc;             /**< units are written behind lengths of four bytes, else behind 00 00 00 01 */
+    bool has_sets;        /**< the decoder has the parameter sets, as from sprop-* of a session description, and can begin
+                           * with a keyframe that bears none */
     size_t held_limit;    /**< bytes of payloads that may wait; past that none is waited for */
     size_t run_limit;     /**< bytes of data that an open unit may hold from a packet to the next */
     size_t unit_limit;    /**< bytes that an open access unit may hold from a packet to the next */
@@ -450,9 +454,12 @@ typedef struct {
     uint16_t first;       /**< the number of the first packet that came of it */
     uint16_t last;        /**< the number of the last */
     uint8_t extra;        /**< 0 nothing told, 1 units but none of a keyframe, 2 a keyframe among them */
-    bool is_whole;        /**< it is known that nothing of it is missing */
-    bool is_clean;        /**< nor is anything since a keyframe of which nothing is: a decoder that began there goes on.
-                           * False: ask the sender for a keyframe */
+    bool is_whole;        /**< it is known that nothing of it is missing: its first packet follows the one before, or it
+                           * begins with a delimiter, or is the first one and begins with its parameter sets */
+    bool is_clean;        /**< a decoder can show it: nothing of it is missing, nor was since a keyframe that came from its
+                           * first slice on with its parameter sets, in it or before it in order, or it is one. Pictures
+                           * that are disposable may be missing in part. False: ask the sender for a keyframe */
+    bool is_disposable;   /**< no other picture refers to its own: those after it can be clean where it is damaged */
     bool continues;       /**< a marker ended one of its timestamp right before it, as where a peer sets the marker on each
                            * slice */
 } h26x_access_unit;
@@ -492,10 +499,10 @@ static inline void h26x_access_units_close(h26x_access_units *u)
 }
 
 /** Takes a packet that came at this tick, and copies it where it waits: the one that is due is taken at once where none
- * waits and no access unit has ended that wasn't given out. *pushed and *behind tell what became of it. One without a
- * payload came and bears nothing, as h26x_access_units_skip has it. Then call h26x_access_units_next until it has none.
- * H26X_OUT_OF_MEMORY changes nothing, so the packet can be given again; H26X_WRONG_END. Both leave *pushed and
- * *behind. */
+ * waits or is missing right before it, and no access unit has ended that wasn't given out. *pushed and *behind tell
+ * what became of it. One without a payload came and bears nothing, as h26x_access_units_skip has it. Then call
+ * h26x_access_units_next until it has none. H26X_OUT_OF_MEMORY changes nothing, so the packet can be given again;
+ * H26X_WRONG_END. Both leave *pushed and *behind. */
 H26X_API uint32_t h26x_access_units_push(h26x_access_units *u, uint32_t now, uint16_t sequence, uint32_t timestamp,
                                          bool marker, const uint8_t *payload, size_t payload_len, uint32_t *pushed,
                                          uint16_t *behind) H26X_MUST_USE;
@@ -512,15 +519,22 @@ H26X_API uint32_t h26x_access_units_skip(h26x_access_units *u, uint32_t now, uin
 H26X_API uint32_t h26x_access_units_next(h26x_access_units *u, uint32_t now, uint8_t *to, size_t room,
                                          h26x_access_unit *unit) H26X_MUST_USE;
 
-/** Whether packets wait and there is a max_wait; *at is then the tick at which to call h26x_access_units_next at the
+/** Whether packets wait, and not by the window alone; *at is then the tick at which to call h26x_access_units_next at the
  * latest, and else left. False for a handle of another kind. */
 H26X_API bool h26x_access_units_deadline(const h26x_access_units *u, uint32_t *at);
 
 /** The numbers that are missing before packets that wait, in order: those to ask the sender for again (NACK; RFC 4585,
- * 6.2.1). *count is how many they are, and the first ones go to the front of `numbers`, up to `numbers_room` of them; the
- * rest of it is left. H26X_OUT_OF_MEMORY and H26X_WRONG_END write 0 to *count and leave `numbers`. */
+ * 6.2.1). Of a stream that begins none is before the first that waits. *count is how many they are, and the first ones
+ * go to the front of `numbers`, up to `numbers_room` of them; the rest of it is left. H26X_OUT_OF_MEMORY and
+ * H26X_WRONG_END write 0 to *count and leave `numbers`. */
 H26X_API uint32_t h26x_access_units_missing(const h26x_access_units *u, uint16_t *numbers, size_t numbers_room,
                                             size_t *count) H26X_MUST_USE;
+
+/** Says the number of the first packet of the stream, as a peer tells it (RTP-Info of RTSP, RFC 2326, 12.33): packets
+ * from it on are waited for, and the first access unit is known to be whole where they came. *in_time is 1, or 0 where
+ * a packet came before, one was said, or h26x_access_units_next hasn't given out all behind h26x_access_units_finish;
+ * nothing is changed then. H26X_WRONG_END leaves *in_time. */
+H26X_API uint32_t h26x_access_units_begin_at(h26x_access_units *u, uint16_t sequence, uint32_t *in_time);
 
 /** At the end of a stream: all that waits is due, and once it was taken the open access unit ends, not known to be whole.
  * h26x_access_units_next gives all of it, and then any number is the next. H26X_WRONG_END. */

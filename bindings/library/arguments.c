@@ -29,6 +29,7 @@ PROVED(access_units_skip);
 PROVED(access_units_next);
 PROVED(access_units_deadline);
 PROVED(access_units_missing);
+PROVED(access_units_begin_at);
 PROVED(access_units_count);
 PROVED(h265_part_copy);
 PROVED(h265_paci_packet);
@@ -264,6 +265,12 @@ uint32_t h26x_access_units_missing(const h26x_access_units *u, uint16_t *numbers
 {
     size_t unwanted;
     return proved_access_units_missing(u, NUMBERS(numbers, numbers_room), WANTED(count, &unwanted));
+}
+
+uint32_t h26x_access_units_begin_at(h26x_access_units *u, uint16_t sequence, uint32_t *in_time)
+{
+    uint32_t unwanted;
+    return proved_access_units_begin_at(u, sequence, WANTED(in_time, &unwanted));
 }
 
 uint32_t h26x_access_units_count(const h26x_access_units *u, h26x_access_units_counts *counts)

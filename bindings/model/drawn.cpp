@@ -27,6 +27,7 @@ uint8_t memory[ROOM + 64];
 struct Totals {
     uint64_t packets = 0, networks = 0, refused_settings = 0, pushed[6] = {}, bytes = 0;
     uint64_t no_room = 0, clean = 0, continues = 0, keyframes = 0, missing = 0, deadlines = 0;
+    uint64_t disposable = 0, clean_by_sets = 0, whole_by_front = 0, clean_behind_damage = 0, begun[2] = {};
     h26x_access_units_counts counts{};
 };
 
@@ -35,7 +36,7 @@ using Numbers = uint64_t[sizeof(h26x_access_units_counts) / sizeof(uint64_t)];
 // The library's receiver beside the model.
 class Pair {
 public:
-    Pair(const h26x_access_units_config &config, Totals &t) : model(config), totals(t)
+    Pair(const h26x_access_units_config &config, Totals &t) : model(config), totals(t), has_sets(config.has_sets)
     {
         const uint32_t code = h26x_access_units_new(&config, &u);
         is_same(code == model::Receiver::code_of(config), "h26x_access_units_new");
@@ -74,6 +75,9 @@ public:
         case Kind::finish:
             is_same(h26x_access_units_finish(&u) == H26X_OK, "h26x_access_units_finish");
             model.finish();
+            break;
+        case Kind::begin_at:
+            begin_at(call.number);
             break;
         case Kind::restart:
             is_same(h26x_access_units_restart(&u) == H26X_OK, "h26x_access_units_restart");
@@ -121,6 +125,15 @@ private:
         totals.pushed[wanted]++;
     }
 
+    void begin_at(uint16_t number)
+    {
+        uint32_t in_time = 99;
+        is_same(h26x_access_units_begin_at(&u, number, &in_time) == H26X_OK, "h26x_access_units_begin_at");
+        const bool wanted = model.begin_at(number);
+        is_same(in_time == wanted, "whether the first number is said in time");
+        totals.begun[wanted]++;
+    }
+
     // Whether an access unit was given out.
     bool next(uint32_t now, size_t room)
     {
@@ -136,7 +149,10 @@ private:
         is_same(unit.missing == told.missing, "missing");
         is_same(unit.first == told.first && unit.last == told.last, "first, last");
         is_same(unit.extra == told.extra, "extra");
-        is_same(told_bools(unit) == told_bools(told), "is_whole, is_clean, continues");
+        is_same(told_bool(unit.is_whole) == told_bool(told.is_whole), "is_whole");
+        is_same(told_bool(unit.is_clean) == told_bool(told.is_clean), "is_clean");
+        is_same(told_bool(unit.is_disposable) == told_bool(told.is_disposable), "is_disposable");
+        is_same(told_bool(unit.continues) == told_bool(told.continues), "continues");
         is_same(memcmp(memory, bytes.data(), bytes.size()) == 0, "the bytes");
         // all else of the memory is left
         memset(memory, UNTOUCHED, bytes.size());
@@ -146,19 +162,22 @@ private:
         if (wanted == H26X_OK) {
             totals.bytes += told.len;
             totals.clean += told.is_clean;
+            totals.disposable += told.is_disposable;
+            totals.clean_by_sets += told.is_clean && has_sets;
+            totals.clean_behind_damage += told.is_clean && told.extra != 2 && !was_clean;
+            totals.whole_by_front += told.is_whole && told.missing > 0;
+            was_clean = told.is_clean;
             totals.continues += told.continues;
             totals.keyframes += told.extra == 2;
         }
         return wanted == H26X_OK && difference == nullptr;
     }
 
-    static unsigned told_bools(const h26x_access_unit &unit)
+    static unsigned told_bool(const bool &told)
     {
-        uint8_t bools[3];
-        memcpy(bools, &unit.is_whole, 1);
-        memcpy(bools + 1, &unit.is_clean, 1);
-        memcpy(bools + 2, &unit.continues, 1);
-        return bools[0] | bools[1] << 8 | bools[2] << 16;
+        uint8_t it;
+        memcpy(&it, &told, 1);
+        return it;
     }
 
     // What can be asked at any time. Where many numbers are missing they are asked for now and then.
@@ -187,7 +206,8 @@ private:
         totals.missing += missing.size();
     }
 
-    bool many_missing = false;
+    const bool has_sets;
+    bool many_missing = false, was_clean = true;
 };
 
 // What differs first, and the call behind which it does; nullptr where nothing does.
@@ -244,14 +264,15 @@ Network smallest(Network network)
 
 void print(const Network &network)
 {
-    static const char *const names[] = {"push", "skip", "next", "next, until none", "finish", "restart"};
+    static const char *const names[] = {"push", "skip", "next", "next, until none", "finish", "restart", "begin at"};
     const h26x_access_units_config &c = network.config;
-    printf("codec %u, max_wait %u, window %u, far_away %u, numbers %d, avc %d, held_limit %zu, run_limit %zu,"
-           " unit_limit %zu\n",
-           c.codec, c.max_wait, c.window, c.far_away, c.numbers, c.avc, c.held_limit, c.run_limit, c.unit_limit);
+    printf("codec %u, max_wait %u, begin_wait %u, window %u, far_away %u, numbers %d, avc %d, has_sets %d,"
+           " held_limit %zu, run_limit %zu, unit_limit %zu\n",
+           c.codec, c.max_wait, c.begin_wait, c.window, c.far_away, c.numbers, c.avc, c.has_sets, c.held_limit,
+           c.run_limit, c.unit_limit);
     for (const Call &call : network.calls) {
         printf("%s at %u", names[static_cast<size_t>(call.kind)], call.now);
-        if (call.kind == Kind::push || call.kind == Kind::skip)
+        if (call.kind == Kind::push || call.kind == Kind::skip || call.kind == Kind::begin_at)
             printf(": %u", call.number);
         if (call.kind == Kind::next)
             printf(": room %u", call.room);
@@ -279,6 +300,12 @@ const char *never(const Totals &t)
         {t.pushed[H26X_ANEW], "anew"},
         {t.no_room, "no room"},
         {t.clean, "clean"},
+        {t.clean_by_sets, "clean by sets that the decoder has"},
+        {t.clean_behind_damage, "clean behind a damaged picture"},
+        {t.whole_by_front, "whole behind missing numbers"},
+        {t.disposable, "disposable"},
+        {t.begun[0], "a first number that is said too late"},
+        {t.begun[1], "a first number that is said in time"},
         {t.continues, "continues"},
         {t.keyframes, "a keyframe"},
         {t.missing, "missing"},

@@ -194,6 +194,115 @@ inline Bytes text_of(bool avc, const std::vector<Bytes> &units)
     return text;
 }
 
+// ---- What a unit is ----
+
+// What a unit tells of its access unit, by the tables and headers of the video standards: H.264 7.3.1 to 7.3.3, H.265
+// 7.3.1.2, 7.3.2.2 and 7.3.6.1, H.266 7.3.1.2, 7.3.2.8 and 7.3.7. A unit of another layer, or without a whole header,
+// tells nothing.
+struct Told {
+    bool is_delimiter = false, is_vps = false, is_sps = false, is_pps = false;
+    unsigned layers = 0;                  // temporal ones, as an SPS of H.265 has them
+    std::optional<bool> is_non_reference; // as a picture header of H.266 has it
+    bool is_slice = false, is_first = false, is_key = false;
+    bool is_unreferenced = false; // no picture refers to it, or of H.265 none of its temporal layer
+    unsigned layer = 0;           // its temporal layer, the lowest 1, in H.265
+};
+
+inline Told told_h264(const Bytes &unit)
+{
+    Told it;
+    const unsigned type = byte(unit, 0) & 31;
+    it.is_sps = type == 7;
+    it.is_pps = type == 8;
+    it.is_delimiter = type == 9;
+    it.is_key = type == 5;
+    it.is_slice = it.is_key || type == 1 || type == 2;
+    it.is_first = unit.size() > 1 && byte(unit, 1) >= 0x80; // first_mb_in_slice 0 is the bit 1
+    it.is_unreferenced = (byte(unit, 0) & 0x60) == 0;
+    return it;
+}
+
+inline Told told_h265(const Bytes &unit)
+{
+    Told it;
+    const unsigned type = byte(unit, 0) >> 1 & 63, behind = unit.size() > 2 ? byte(unit, 2) : 0;
+    if ((byte(unit, 0) & 1) != 0 || byte(unit, 1) >= 8)
+        return it;
+    it.is_vps = type == 32;
+    it.is_sps = type == 33;
+    it.is_pps = type == 34;
+    it.is_delimiter = type == 35;
+    it.layers = it.is_sps ? (behind >> 1 & 7) + 1 : 0;
+    it.is_key = type >= 16 && type <= 21;
+    it.is_slice = it.is_key || type <= 9;
+    it.is_first = behind >= 0x80;
+    it.is_unreferenced = type < 10 && type % 2 == 0;
+    it.layer = byte(unit, 1) & 7;
+    return it;
+}
+
+inline Told told_h266(const Bytes &unit)
+{
+    Told it;
+    const unsigned type = byte(unit, 1) >> 3, behind = unit.size() > 2 ? byte(unit, 2) : 0;
+    if ((byte(unit, 0) & 63) != 0)
+        return it;
+    it.is_vps = type == 14;
+    it.is_sps = type == 15;
+    it.is_pps = type == 16;
+    it.is_delimiter = type == 20;
+    if (type == 19)
+        it.is_non_reference = (behind & 0x40) != 0;
+    it.is_key = type >= 7 && type <= 9;
+    it.is_slice = it.is_key || type == 10 || type <= 3;
+    it.is_first = behind >= 0x80; // it has the picture header
+    it.is_unreferenced = it.is_first && (behind & 0x20) != 0;
+    return it;
+}
+
+inline Told told_of(uint32_t codec, const Bytes &unit)
+{
+    if (codec == H26X_H264 ? unit.empty() : unit.size() < 2 || (unit[1] & 7) == 0)
+        return {};
+    return codec == H26X_H264 ? told_h264(unit) : codec == H26X_H265 ? told_h265(unit) : told_h266(unit);
+}
+
+// The units of a text, as its reader finds them: 64 at most.
+inline std::vector<Bytes> units_in(bool avc, const Bytes &text)
+{
+    static const Bytes code("\0\0\1", 3);
+    std::vector<Bytes> units;
+    size_t at = avc ? 0 : text.find(code);
+    while (units.size() < 64 && at < text.size()) {
+        size_t end;
+        if (avc) {
+            const size_t len = word(text, at) << 16 | word(text, at + 2);
+            units.push_back(text.substr(at + 4, len));
+            end = at + 4 + len;
+        } else {
+            end = text.find(code, at + 3);
+            units.push_back(text.substr(at + 3, end - at - 3));
+            // (the zero before the three bytes of a start code is of that)
+            if (end != Bytes::npos && !units.back().empty() && units.back().back() == 0)
+                units.back().pop_back();
+        }
+        at = end;
+    }
+    return units;
+}
+
+// What is told by the units of an access unit up to its first slice.
+inline std::vector<Told> told_up_to_slice(uint32_t codec, const std::vector<Bytes> &units)
+{
+    std::vector<Told> all;
+    for (const Bytes &unit : units) {
+        all.push_back(told_of(codec, unit));
+        if (all.back().is_slice)
+            break;
+    }
+    return all;
+}
+
 // ---- Runs of fragments ----
 
 using Fragments = std::vector<Reading>;
@@ -256,7 +365,8 @@ struct Packet {
 struct Taken {
     uint16_t number;
     uint32_t missing;           // numbers, since the packet that was taken before it
-    bool is_sound;              // it follows that packet, bytes of it stand, and no run is given up or too long
+    bool is_sound;              // nothing is missing between it and the one before in its access unit, bytes of it
+                                // stand, and no run is given up or too long
     bool is_text_given_up;      // the text with it was longer than the limit
     std::vector<Bytes> brought; // units
 };
@@ -264,6 +374,7 @@ struct Taken {
 struct AccessUnit {
     uint32_t timestamp = 0;
     bool continues = false;
+    bool is_first = false;  // no packet was taken before, and the number of the first isn't told
     bool is_broken = false; // numbers are missing in it or right behind it, or a run is open at its end
     std::vector<Taken> packets;
 };
@@ -271,6 +382,10 @@ struct AccessUnit {
 struct Given {
     h26x_access_unit told;
     Bytes bytes;
+    bool is_unbroken; // from its first packet that came on
+    bool follows;     // nothing is missing between that and a packet taken before
+    std::vector<Told> units;
+    bool can_go_on = false; // what was found of it
 };
 
 // How many bytes an open access unit holds: of units brought since its text was given up last.
@@ -283,8 +398,7 @@ inline size_t text_len(const AccessUnit &unit)
     return len;
 }
 
-// An access unit that has ended. Whether it is clean is known once it is given out; until then is_whole stands for what
-// is known of its own packets.
+// An access unit that has ended. Whether it is whole, clean and disposable is known once it is given out.
 inline Given ended_unit(const h26x_access_units_config &config, const AccessUnit &unit)
 {
     Given it{};
@@ -292,11 +406,12 @@ inline Given ended_unit(const h26x_access_units_config &config, const AccessUnit
     it.told.first = unit.packets.front().number;
     it.told.last = unit.packets.back().number;
     it.told.continues = unit.continues;
-    it.told.is_whole = !unit.is_broken;
+    it.follows = !unit.is_first && unit.packets.front().missing == 0;
+    it.is_unbroken = !unit.is_broken;
     std::vector<Bytes> units;
     for (const Taken &packet : unit.packets) {
         it.told.missing += packet.missing;
-        it.told.is_whole = it.told.is_whole && packet.is_sound && !packet.is_text_given_up;
+        it.is_unbroken = it.is_unbroken && packet.is_sound && !packet.is_text_given_up;
         units.insert(units.end(), packet.brought.begin(), packet.brought.end());
         if (packet.is_text_given_up)
             units.clear();
@@ -304,8 +419,131 @@ inline Given ended_unit(const h26x_access_units_config &config, const AccessUnit
     it.bytes = text_of(config.avc, units);
     it.told.len = it.bytes.size();
     it.told.extra = extra_of(config.codec, units);
+    it.units = told_up_to_slice(config.codec, units_in(config.avc, it.bytes));
     return it;
 }
+
+// ---- What a decoder makes of them ----
+
+// The access units that were given out, since the receiver was made or begun for another sender, from one that follows
+// none on. Each question is asked of one by its place, and answered by those before it.
+struct History {
+    uint32_t codec;
+    bool has_sets; // the decoder has them
+    std::vector<Given> all;
+    bool has_begun = false; // one was given out before
+
+    // The first slice, if there is one, as its picture's header has it, which may stand before it.
+    std::optional<Told> slice(size_t place) const
+    {
+        std::optional<bool> is_non_reference;
+        for (Told unit : all[place].units) {
+            if (unit.is_non_reference)
+                is_non_reference = unit.is_non_reference;
+            if (unit.is_slice && is_non_reference) {
+                unit.is_first = true;
+                unit.is_unreferenced = *is_non_reference;
+            }
+            if (unit.is_slice)
+                return unit;
+        }
+        return std::nullopt;
+    }
+
+    bool has(size_t place, bool Told::*kind) const
+    {
+        const std::vector<Told> &units = all[place].units;
+        return std::any_of(units.begin(), units.end(), [&](const Told &unit) { return unit.*kind; });
+    }
+
+    // Whether a parameter set of a kind is in it, or before it with nothing missing since.
+    bool came(size_t place, bool Told::*kind) const
+    {
+        for (;; place--) {
+            if (!all[place].is_unbroken)
+                return false;
+            if (has(place, kind))
+                return true;
+            if (!all[place].follows || place == 0)
+                return false;
+        }
+    }
+
+    bool came_all(size_t place) const
+    {
+        return came(place, &Told::is_sps) && came(place, &Told::is_pps)
+            && (codec != H26X_H265 || came(place, &Told::is_vps));
+    }
+
+    // How many temporal layers there are, by the SPS of the latest access unit that has some, with no number missing
+    // since; 0: it isn't known.
+    unsigned layers(size_t place) const
+    {
+        for (;; place--) {
+            unsigned most = 0;
+            for (const Told &unit : all[place].units)
+                most = std::max(most, unit.layers);
+            if (most != 0 || !all[place].follows || place == 0)
+                return most;
+        }
+    }
+
+    // Whether no picture refers to its own.
+    bool is_disposable(size_t place) const
+    {
+        const std::optional<Told> it = slice(place);
+        if (!it || it->is_key || !it->is_unreferenced)
+            return false;
+        return codec != H26X_H265 || (it->layer != 0 && it->layer == layers(place));
+    }
+
+    // Whether a decoder can begin with it.
+    bool can_begin(size_t place) const
+    {
+        const std::optional<Told> it = slice(place);
+        return all[place].is_unbroken && !all[place].told.continues && it && it->is_key && it->is_first
+            && (has_sets || came_all(place));
+    }
+
+    // Whether one that was given those up to it can go on: since one with which it could begin nothing is missing, but in
+    // pictures to which no other refers.
+    bool can_go_on_behind(size_t place) const
+    {
+        if (can_begin(place))
+            return true;
+        return place > 0 && all[place].follows && all[place - 1].can_go_on
+            && (all[place].is_unbroken || is_disposable(place));
+    }
+
+    // Whether its first unit is one that stands first in an access unit: a delimiter, or in the first one a parameter set.
+    bool is_front(size_t place) const
+    {
+        if (all[place].units.empty())
+            return false;
+        const Told &first = all[place].units.front();
+        return first.is_delimiter || (!has_begun && (first.is_vps || (first.is_sps && codec != H26X_H265)));
+    }
+
+    bool is_whole(size_t place) const
+    {
+        return all[place].is_unbroken && !all[place].told.continues && (all[place].follows || is_front(place));
+    }
+
+    // The latest one is told of.
+    void append(Given &it)
+    {
+        if (!it.follows)
+            all.clear();
+        all.push_back(it);
+        all.back().bytes.clear();
+        const size_t place = all.size() - 1;
+        all.back().can_go_on = can_go_on_behind(place);
+        it.told.is_whole = is_whole(place);
+        it.told.is_clean = all.back().is_unbroken && all.back().can_go_on;
+        it.told.is_disposable = is_disposable(place);
+        has_begun = true;
+    }
+};
 
 // ---- The receiver ----
 
@@ -314,6 +552,7 @@ struct Waiting {
     std::optional<int64_t> due;
     std::map<int64_t, Packet> packets;
     std::list<std::pair<int64_t, uint32_t>> arrivals;
+    bool has_begun = false; // the first packet of the stream went, or its number is told
     bool is_over = false;
 
     int64_t newest() const { return packets.empty() ? *due : packets.rbegin()->first; }
@@ -352,13 +591,15 @@ struct Waiting {
         packets.erase(first);
         arrivals.erase(std::find_if(arrivals.begin(), arrivals.end(), [&](auto &it) { return it.first == place; }));
         due = place + 1;
+        has_begun = true;
         return packet;
     }
 };
 
 // What is known of the packets that were taken of a stream.
 struct Stream {
-    std::optional<uint16_t> expected; // the number behind the last one that was taken or skipped
+    std::optional<uint16_t> expected; // the number behind the last one that was taken or skipped, or the first, if told
+    bool has_begun = false;           // a packet was taken, or the number of the first is told
     bool is_gap = false;              // numbers are missing before those that were skipped since the last packet
     uint32_t skipped_gap = 0;         // so many
     std::optional<uint32_t> marked;   // the timestamp of the last packet, where it bore the marker
@@ -369,7 +610,10 @@ struct Stream {
 
 class Receiver {
 public:
-    explicit Receiver(const h26x_access_units_config &settings) : config(settings) {}
+    explicit Receiver(const h26x_access_units_config &settings)
+        : config(settings), history{settings.codec, settings.has_sets, {}}
+    {
+    }
 
     // What h26x_access_units_new answers.
     static uint32_t code_of(const h26x_access_units_config &c)
@@ -388,6 +632,7 @@ public:
             return push_far(now, packet);
         if (is_taken_at_once(packet.number)) {
             waiting.due = *waiting.due + 1;
+            waiting.has_begun = true;
             take(packet);
             return H26X_HELD;
         }
@@ -416,19 +661,33 @@ public:
 
     std::optional<uint32_t> deadline() const
     {
-        if (config.max_wait == UINT32_MAX || waiting.arrivals.empty())
+        if (longest_wait() == UINT32_MAX || waiting.arrivals.empty())
             return std::nullopt;
-        return waiting.arrivals.front().second + config.max_wait;
+        return waiting.arrivals.front().second + longest_wait();
     }
 
     std::vector<uint16_t> missing() const
     {
         std::vector<uint16_t> numbers;
-        if (!waiting.packets.empty())
-            for (int64_t place = *waiting.due; place < waiting.newest(); place++)
-                if (waiting.packets.count(place) == 0)
-                    numbers.push_back(static_cast<uint16_t>(place));
+        if (waiting.packets.empty())
+            return numbers;
+        const int64_t from = waiting.has_begun ? *waiting.due : waiting.packets.begin()->first;
+        for (int64_t place = from; place < waiting.newest(); place++)
+            if (waiting.packets.count(place) == 0)
+                numbers.push_back(static_cast<uint16_t>(place));
         return numbers;
+    }
+
+    // Whether it is said in time.
+    bool begin_at(uint16_t number)
+    {
+        if (waiting.due || waiting.is_over)
+            return false;
+        waiting.due = number;
+        waiting.has_begun = true;
+        stream.expected = number;
+        stream.has_begun = true;
+        return true;
     }
 
     void finish() { waiting.is_over = true; }
@@ -439,7 +698,7 @@ public:
         stray.reset();
         is_anew = false;
         stream = {};
-        broken = ++units;
+        history = {config.codec, config.has_sets, {}};
     }
 
     h26x_access_units_counts counts{};
@@ -451,8 +710,7 @@ private:
     bool is_anew = false;        // the stream has begun anew, so the access unit that is open ends
     Stream stream;
     std::optional<Given> left; // it had no room
-    // how many access units were given out, the last that isn't known to be whole, the last keyframe that is
-    uint64_t units = 0, broken = 0, key = 0;
+    History history;
 
     // RFC 3550, A.1: on the circle from the place that is due to itself, a number is behind the newest that waits, and
     // far from both ends
@@ -465,11 +723,24 @@ private:
             && *waiting.due + 65536 - place >= config.far_away;
     }
 
-    // It is the next one, and nothing is before it: neither a packet that waits, nor an access unit that ended or is to.
+    // For how long a packet waits at most.
+    uint32_t longest_wait() const
+    {
+        return waiting.has_begun ? config.max_wait : std::min(config.begin_wait, config.max_wait);
+    }
+
+    // Numbers are missing right before this one, or before those that were skipped right before it.
+    bool is_behind_missing(uint16_t number) const
+    {
+        return stream.expected && (stream.is_gap || number != *stream.expected);
+    }
+
+    // It is the next one, and nothing is before it: neither a packet that waits or is missing, nor an access unit that
+    // ended or is to.
     bool is_taken_at_once(uint16_t number) const
     {
         return waiting.packets.empty() && waiting.due && waiting.place_of(number) == *waiting.due
-            && stream.ended.empty() && !is_anew;
+            && !is_behind_missing(number) && stream.ended.empty() && !is_anew;
     }
 
     uint32_t push_far(uint32_t now, const Packet &packet)
@@ -495,8 +766,7 @@ private:
         if (waiting.packets.empty())
             return false;
         const int64_t first = waiting.packets.begin()->first;
-        const bool has_waited =
-            config.max_wait != UINT32_MAX && now - waiting.arrivals.front().second >= config.max_wait;
+        const bool has_waited = longest_wait() != UINT32_MAX && now - waiting.arrivals.front().second >= longest_wait();
         return first == *waiting.due || waiting.newest() - first >= config.window - 1 || has_waited || waiting.is_over
             || waiting.bytes() > config.held_limit;
     }
@@ -508,8 +778,12 @@ private:
             is_anew = false;
             end_stream();
         }
-        while (stream.ended.empty() && is_due(now))
-            take(waiting.take_first());
+        while (stream.ended.empty() && is_due(now)) {
+            if (begins_behind_missing(waiting.packets.begin()->second))
+                end_behind_missing(waiting.packets.begin()->second.number);
+            else
+                take(waiting.take_first());
+        }
         if (stream.ended.empty() && waiting.is_over) {
             waiting = {};
             stray.reset();
@@ -519,13 +793,7 @@ private:
             return std::nullopt;
         Given it = std::move(stream.ended.front());
         stream.ended.pop_front();
-        units++;
-        if (!it.told.is_whole)
-            broken = units;
-        else if (!it.told.continues && it.told.extra == 2)
-            key = units;
-        it.told.is_clean = key > broken;
-        it.told.is_whole = it.told.is_whole && !it.told.continues;
+        history.append(it);
         counts.units++;
         counts.whole += it.told.is_whole;
         return it;
@@ -536,6 +804,27 @@ private:
         stream.open->is_broken = stream.open->is_broken || !is_known || open_len(stream.fragments) > 0;
         stream.ended.push_back(ended_unit(config, *stream.open));
         stream.open.reset();
+        stream.fragments.clear();
+    }
+
+    // It is the first of its access unit, and numbers are missing right before it.
+    bool begins_behind_missing(const Packet &packet) const
+    {
+        const bool is_of_open = stream.open && stream.open->timestamp == packet.timestamp;
+        return !packet.payload.empty() && !is_of_open && is_behind_missing(packet.number);
+    }
+
+    // What is open ends, not known to be whole. What comes then is judged from its first packet on.
+    void end_behind_missing(uint16_t number)
+    {
+        const uint16_t missing = static_cast<uint16_t>(number - *stream.expected);
+        counts.lost += missing;
+        stream.skipped_gap += missing;
+        if (stream.open)
+            end_unit(false);
+        stream.expected.reset();
+        stream.has_begun = stream.is_gap = false;
+        stream.marked.reset();
         stream.fragments.clear();
     }
 
@@ -552,6 +841,8 @@ private:
     // A packet that was due: it bears nothing, is refused, and then missing itself, or is taken.
     void take(const Packet &packet)
     {
+        if (!stream.expected && !packet.payload.empty())
+            stream.expected = packet.number;
         const uint16_t missing =
             stream.expected ? static_cast<uint16_t>(packet.number - *stream.expected) : uint16_t{0};
         const bool is_expected = stream.expected && missing == 0;
@@ -593,6 +884,7 @@ private:
             stream.open.emplace();
             stream.open->timestamp = packet.timestamp;
             stream.open->continues = stream.marked == packet.timestamp;
+            stream.open->is_first = !stream.has_begun;
         }
         Taken taken{packet.number, stream.skipped_gap + missing, follows, false, std::move(reading.units)};
         if (reading.is_fragment) {
@@ -611,6 +903,7 @@ private:
         }
         stream.open->packets.push_back(std::move(taken));
         stream.expected = static_cast<uint16_t>(packet.number + 1);
+        stream.has_begun = true;
         stream.is_gap = false;
         stream.skipped_gap = 0;
         stream.marked.reset();

@@ -47,15 +47,68 @@ inline Bytes drawn_unit(Random &r, uint32_t codec)
         return r.one_in(8) ? static_cast<int>(r.below(types)) : r.of(often);
     };
     if (codec == H26X_H264) {
-        unit[0] = static_cast<char>((r.below(4) << 5) | type({1, 1, 1, 5, 5, 6, 7, 8, 9, 23}, 32));
+        unit[0] = static_cast<char>((r.below(4) << 5) | type({1, 1, 1, 2, 5, 5, 6, 7, 7, 8, 8, 9, 23}, 32));
     } else if (codec == H26X_H265) {
-        unit[0] = static_cast<char>(type({0, 1, 1, 15, 16, 19, 21, 22, 32, 33, 34, 35, 39}, 64) << 1 | r.one_in(9));
-        unit[1] = static_cast<char>(r.one_in(4) ? r.below(256) : 1);
+        unit[0] = static_cast<char>(type({0, 1, 1, 2, 15, 16, 19, 21, 22, 32, 33, 34, 35, 39}, 64) << 1 | r.one_in(9));
+        unit[1] = static_cast<char>(r.one_in(4) ? r.below(256) : 1 + r.one_in(4));
+        if (unit[0] == 66)
+            unit[2] = static_cast<char>(r.below(2) << 1 | 1); // one temporal layer or two
     } else {
         unit[0] = static_cast<char>(r.one_in(9) ? r.below(128) : 0);
-        unit[1] = static_cast<char>(type({0, 1, 1, 6, 7, 8, 9, 10, 14, 15, 16, 20, 23}, 32) << 3 | r.below(3));
+        unit[1] = static_cast<char>(type({0, 1, 1, 6, 7, 8, 9, 10, 14, 15, 16, 19, 20, 23}, 32) << 3 | r.below(3));
     }
     return unit;
+}
+
+// The units of an access unit in the order of the video standards, as encoders send them: a delimiter, parameter sets, a
+// picture header, and slices, the first of the picture first; of a keyframe or not.
+inline std::vector<Bytes> drawn_access_unit(Random &r, uint32_t codec)
+{
+    const bool is_key = r.one_in(3), is_referred = r.one_in(2), has_upper = r.one_in(5);
+    std::vector<Bytes> units;
+    const auto add = [&](std::initializer_list<int> bytes) {
+        units.emplace_back();
+        for (const int it : bytes)
+            units.back() += static_cast<char>(it);
+        units.back() += drawn_bytes(r, r.one_in(9) ? 0 : r.from(1, 9));
+    };
+    const size_t slices = r.one_in(3) ? 2 : 1;
+    const bool has_delimiter = r.one_in(4), has_vps = r.one_in(2), has_sets = is_key ? !r.one_in(6) : r.one_in(9);
+    if (codec == H26X_H264) {
+        if (has_delimiter)
+            add({0x09, 0xf0});
+        if (has_sets) {
+            add({0x67, 0x42, 0xc0});
+            add({0x68, 0xce});
+        }
+        for (size_t i = 0; i < slices; i++)
+            add({is_key ? 0x65 : is_referred ? 0x41 : 0x01, i == 0 ? 0x88 : 0x40});
+    } else if (codec == H26X_H265) {
+        if (has_delimiter)
+            add({0x46, 1, 0x50});
+        if (has_sets) {
+            add({0x40, 1, 0x0c});
+            add({0x42, 1, r.one_in(3) ? 3 : 1});
+            add({0x44, 1, 0xc1});
+        }
+        for (size_t i = 0; i < slices; i++)
+            add({is_key ? 0x26 : is_referred ? 0x02 : 0x00, !is_key && has_upper ? 2 : 1, i == 0 ? 0xac : 0x2c});
+    } else {
+        if (has_delimiter)
+            add({0, 0xa1, 0x28});
+        if (has_sets && has_vps)
+            add({0, 0x71, 0x10});
+        if (has_sets) {
+            add({0, 0x79, 0});
+            add({0, 0x81, 0});
+        }
+        const bool has_header = slices > 1;
+        if (has_header)
+            add({0, 0x99, is_key ? 0x80 : is_referred ? 0 : 0x40});
+        for (size_t i = 0; i < slices; i++)
+            add({0, is_key ? 0x41 : 1, has_header ? 0x40 : is_referred || is_key ? 0xc0 : 0xe0});
+    }
+    return units;
 }
 
 inline Bytes word_of(size_t n)
@@ -123,11 +176,16 @@ struct Sender {
 
     void send(Random &r, Packets &packets)
     {
-        const Bytes unit = drawn_unit(r, codec);
+        if (r.one_in(7))
+            aggregate(r, packets);
+        else
+            send_unit(r, drawn_unit(r, codec), packets);
+    }
+
+    void send_unit(Random &r, const Bytes &unit, Packets &packets)
+    {
         if (r.one_in(3)) {
             fragments(r, unit, packets);
-        } else if (r.one_in(5)) {
-            aggregate(r, packets);
         } else if (codec == H26X_H265 && r.one_in(12)) {
             const size_t extension = r.below(6);
             packets.push_back(header(unit, 50) + word_of(type(unit) << 9 | extension << 4) + drawn_bytes(r, extension)
@@ -174,8 +232,13 @@ struct Pool {
     {
         Sender sender{codec, numbers, static_cast<uint16_t>(r.below(65536))};
         Packets own;
-        for (size_t count = r.from(1, 3); count > 0; count--)
-            sender.send(r, own);
+        if (r.one_in(2)) {
+            for (const Bytes &unit : drawn_access_unit(r, codec))
+                sender.send_unit(r, unit, own);
+        } else {
+            for (size_t count = r.from(1, 3); count > 0; count--)
+                sender.send(r, own);
+        }
         Packets made = packetized(r, p, codec);
         Bytes changed = own.front();
         if (r.one_in(2))
@@ -226,7 +289,7 @@ struct Pools {
 
 // ---- Calls ----
 
-enum class Kind : uint8_t { push, skip, next, next_all, finish, restart };
+enum class Kind : uint8_t { push, skip, next, next_all, finish, restart, begin_at };
 
 struct Call {
     Kind kind;
@@ -259,6 +322,8 @@ inline h26x_access_units_config drawn_config(Random &r, const Pool &pool)
                                            : r.one_in(4) ? r.below(65536)
                                                          : r.of({100u, 3000u}));
     c.max_wait = r.one_in(3) ? UINT32_MAX : r.one_in(8) ? static_cast<uint32_t>(r.draw()) : r.below(60);
+    c.begin_wait = r.one_in(2) ? 0 : r.one_in(3) ? UINT32_MAX : r.below(60);
+    c.has_sets = r.one_in(3);
     c.held_limit = r.one_in(2) ? SIZE_MAX : limit();
     c.run_limit = limit();
     c.unit_limit = limit();
@@ -279,6 +344,7 @@ public:
     Network drawn()
     {
         const uint32_t count = r.one_in(40) ? 2000 : r.from(20, 300);
+        begin_at_times();
         if (r.one_in(2500))
             refuse_for_long();
         if (r.one_in(2500))
@@ -329,6 +395,13 @@ private:
             call(Kind::next).room = r.below(r.one_in(2) ? 12 : 100);
         if (r.one_in(takes))
             call(r.one_in(8) ? Kind::next : Kind::next_all).room = 1 << 20;
+    }
+
+    // The number of the first packet is told at times, or one near it.
+    void begin_at_times()
+    {
+        if (r.one_in(4))
+            call(Kind::begin_at).number = static_cast<uint16_t>(number - (r.one_in(2) ? 0 : r.below(12) - 4));
     }
 
     // All comes that is to come in this slot.
@@ -404,7 +477,7 @@ private:
                                                         : r.one_in(2) ? 0 - far - r.below(5) + 2
                                                                       : r.of({10000u, 45536u, 32768u, 32767u}));
         Call stray{Kind::push, r.one_in(3), static_cast<uint16_t>(number + jump), 0, timestamp, nullptr, 0};
-        switch (r.below(8)) {
+        switch (r.below(9)) {
         case 0: // the sender begins anew
             number = static_cast<uint16_t>(number + jump);
             break;
@@ -428,6 +501,10 @@ private:
             break;
         case 6:
             call(Kind::restart);
+            begin_at_times();
+            break;
+        case 7:
+            begin_at_times();
             break;
         default: // nobody takes for a while
             for (uint32_t count = r.from(1, 20); count > 0; count--)

@@ -257,7 +257,7 @@ func TestPeersAndPadding(t *testing.T) {
 }
 
 // A receiver of access units takes padding as it comes. None is lost, so none may be told to be missing, and no keyframe
-// asked for once one has come.
+// asked for: the first access unit is one, with its parameter sets.
 func TestPeersAndPaddingInAccessUnits(t *testing.T) {
 	receiver, err := h26x.NewAccessUnitReceiver(h26x.H264, h26x.AccessUnitConfig{MaxWait: 200})
 	if err != nil {
@@ -296,20 +296,17 @@ func TestPeersAndPaddingInAccessUnits(t *testing.T) {
 	if len(got) != len(wanted) {
 		t.Fatalf("%d access units of %d", len(got), len(wanted))
 	}
-	hasBegun := false
 	for i, unit := range got {
 		if !bytes.Equal(unitsOf(h26x.H264, unit.Bytes), unitsOf(h26x.H264, wanted[i])) {
 			t.Errorf("access unit %d is another one", i)
 		}
-		// Of the first nobody knows whether one was sent before it, so the second keyframe is where a recorder begins.
-		if unit.Missing > 0 || unit.IsWhole != (i > 0) || unit.IsClean != (hasBegun || unit.IsWhole && unit.Extra == h26x.Keyframe) {
+		if unit.Missing > 0 || !unit.IsWhole || !unit.IsClean {
 			t.Errorf("access unit %d: %d missing, whole %v, clean %v", i, unit.Missing, unit.IsWhole, unit.IsClean)
 		}
-		hasBegun = hasBegun || unit.IsClean
 	}
 	counts, err := receiver.Counts()
-	if units := uint64(len(wanted)); err != nil || !hasBegun || counts != (h26x.Counts{
-		Taken: uint64(sent - padding), Skipped: uint64(padding), Units: units, Whole: units - 1,
+	if units := uint64(len(wanted)); err != nil || counts != (h26x.Counts{
+		Taken: uint64(sent - padding), Skipped: uint64(padding), Units: units, Whole: units,
 	}) {
 		t.Errorf("got %+v, %v", counts, err)
 	}

@@ -16,7 +16,7 @@ def many(digits: str) -> List[bytes]:
 
 
 class Fragments(NamedTuple):
-    """A unit of a keyframe in three fragments of two bytes of data each."""
+    """The first slice of a keyframe in three fragments of two bytes of data each."""
 
     start: bytes
     middle: bytes
@@ -26,7 +26,7 @@ class Fragments(NamedTuple):
 
 #: RFC 6184, 5.8; RFC 7798, 4.4.3; RFC 9328, 4.3.3: an IDR slice; a slice of IDR_W_RADL; the same.
 FRAGMENTS = {
-    Codec.H264: Fragments(*many("7c850102|7c050304|7c450506|65 010203040506")),
-    Codec.H265: Fragments(*many("6201930102|6201130304|6201530506|2601 010203040506")),
-    Codec.H266: Fragments(*many("00e9870102|00e9070304|00e9470506|0039 010203040506")),
+    Codec.H264: Fragments(*many("7c858802|7c050304|7c450506|65 880203040506")),
+    Codec.H265: Fragments(*many("6201938802|6201130304|6201530506|2601 880203040506")),
+    Codec.H266: Fragments(*many("00e9878802|00e9070304|00e9470506|0039 880203040506")),
 }

@@ -115,6 +115,23 @@ KEYFRAMES: Dict[Codec, range] = {
 }
 
 
+#: What the types of parameter sets, picture headers and delimiters are called here.
+ROLES: Dict[Codec, Dict[int, str]] = {
+    Codec.H264: {7: "sps", 8: "pps", 9: "delimiter"},
+    Codec.H265: {32: "vps", 33: "sps", 34: "pps", 35: "delimiter"},
+    Codec.H266: {14: "vps", 15: "sps", 16: "pps", 19: "header", 20: "delimiter"},
+}
+
+#: The types of slices.
+SLICES = {Codec.H264: range(1, 6), Codec.H265: range(0, 32), Codec.H266: range(0, 12)}
+
+
+def role_of(codec: Codec, unit: bytes) -> str:
+    """What a unit is to a decoder."""
+    kind = type_of(codec, unit)
+    return "slice" if kind in SLICES[codec] else ROLES[codec].get(kind, "other")
+
+
 def is_key(codec: Codec, unit: bytes) -> bool:
     """Whether a unit is of a keyframe."""
     return type_of(codec, unit) in KEYFRAMES[codec]

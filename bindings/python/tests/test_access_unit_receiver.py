@@ -28,19 +28,27 @@ from rfc import annex_b, is_key
 HELD, LATE, TWICE = Pushed.HELD, Pushed.LATE, Pushed.TWICE
 FULL, STRAY, ANEW = Pushed.FULL, Pushed.STRAY, Pushed.ANEW
 
-#: A window of 4 packets, a wait of 100 ticks and 20 bytes of payloads; no number is too far.
+#: A window of 4 packets, a wait of 100 ticks, at the beginning too, and 20 bytes of payloads; no number is
+#: too far, and the decoder has the parameter sets.
 SMALL = AccessUnitConfig(
-    window=4, far=0, max_wait=100, held_limit=20, run_limit=1000, unit_limit=1000
+    window=4,
+    far=0,
+    max_wait=100,
+    begin_wait=100,
+    held_limit=20,
+    run_limit=1000,
+    unit_limit=1000,
+    has_sets=True,
 )
 AT_ONCE = replace(SMALL, window=1)
 
-#: Units of a keyframe and of none, which are packets as they stand.
+#: The first slices of a keyframe and of another picture, which are packets as they stand.
 PICTURES: Dict[Codec, Tuple[bytes, bytes]] = {
     codec: (many(digits)[0], many(digits)[1])
     for codec, digits in (
-        (Codec.H264, "6501|6102"),
-        (Codec.H265, "260101|020102"),
-        (Codec.H266, "003901|000102"),
+        (Codec.H264, "6588|619a"),
+        (Codec.H265, "2601ac|0201d0"),
+        (Codec.H266, "0041c0|0001c0"),
     )
 }
 
@@ -70,6 +78,7 @@ def one(codec: Codec, timestamp: int, sequence: int, unit: bytes, **told: Any) -
         is_keyframe=is_key(codec, unit),
         is_whole=False,
         is_clean=False,
+        is_disposable=False,
         continues=False,
         first=sequence,
         last=sequence,
@@ -86,11 +95,11 @@ def test_packets_missing_late_and_twice(codec: Codec) -> None:
     pushes(receiver, 0xFFFF_FFF0, (65534, 0, True, key))
     # Packets before the first may come still.
     gives(receiver, 0xFFFF_FFF0)
-    assert receiver.missing() == [65531, 65532, 65533]
+    assert receiver.missing() == []
     assert receiver.deadline() == 0x54
     gives(receiver, 0x53)
     # Nobody knows whether one is missing before the first.
-    gives(receiver, 0x54, one(codec, 0, 65534, key))
+    gives(receiver, 0x54, one(codec, 0, 65534, key, is_clean=True))
     assert receiver.deadline() is None
     # The middle fragment comes last, the others twice.
     pushes(receiver, 100, (65535, 3000, False, start))
@@ -125,7 +134,7 @@ def test_markers_of_peers(codec: Codec) -> None:
     pushes(receiver, 0, (10, 0, True, key))
     pushes(receiver, 0, (11, 3000, True, key))
     clean = one(codec, 3000, 11, key, is_whole=True, is_clean=True)
-    gives(receiver, 0, one(codec, 0, 10, key), clean)
+    gives(receiver, 0, one(codec, 0, 10, key, is_clean=True), clean)
     pushes(receiver, 0, (12, 3000, True, slice_))
     # Nothing is missing, but nobody knows whether the picture goes on again.
     gives(receiver, 0, one(codec, 3000, 12, slice_, continues=True, is_clean=True))
@@ -152,7 +161,7 @@ def test_numbers_that_bear_nothing(codec: Codec) -> None:
     receiver, (start, middle, end, whole) = AccessUnitReceiver(codec, AT_ONCE), FRAGMENTS[codec]
     key, slice_ = PICTURES[codec]
     pushes(receiver, 0, (65533, 0, True, key))
-    gives(receiver, 0, one(codec, 0, 65533, key))
+    gives(receiver, 0, one(codec, 0, 65533, key, is_clean=True))
     pushes(receiver, 0, (65534, 3000, False, start))
     pushes(receiver, 0, (65535, 3000, True, b""))
     assert receiver.skip(0, 0) == (HELD, 0)
@@ -172,7 +181,7 @@ def test_strays_and_a_stream_that_begins_anew(codec: Codec) -> None:
     receiver = AccessUnitReceiver(codec, replace(SMALL, far=100))
     key, slice_ = PICTURES[codec]
     pushes(receiver, 0, (10, 0, True, key))
-    gives(receiver, 100, one(codec, 0, 10, key))
+    gives(receiver, 100, one(codec, 0, 10, key, is_clean=True))
     # 11 is due: 110 is 99 ahead. So 111 is a stray, and so is 10111, which takes its place.
     pushes(receiver, 100, (111, 3000, True, slice_), STRAY)
     pushes(receiver, 100, (10111, 3000, True, slice_), STRAY)
@@ -184,13 +193,14 @@ def test_strays_and_a_stream_that_begins_anew(codec: Codec) -> None:
     pushes(receiver, 100, (45547, 6000, True, key), STRAY)
     pushes(receiver, 100, (45548, 9000, True, slice_), ANEW)
     gives(receiver, 100, one(codec, 3000, 11, slice_))
-    both = one(codec, 6000, 45547, key), one(codec, 9000, 45548, slice_, is_whole=True)
-    gives(receiver, 200, *both)
+    gives(receiver, 199)
+    next_ = one(codec, 9000, 45548, slice_, is_whole=True, is_clean=True)
+    gives(receiver, 200, one(codec, 6000, 45547, key, is_clean=True), next_)
     assert receiver.counts() == Counts(taken=4, lost=1, stray=4, anew=1, units=4, whole=1)
     # Where none is too far, one behind is late.
     receiver = AccessUnitReceiver(codec, SMALL)
     pushes(receiver, 0, (10, 0, True, key))
-    gives(receiver, 100, one(codec, 0, 10, key))
+    gives(receiver, 100, one(codec, 0, 10, key, is_clean=True))
     pushes(receiver, 100, (45547, 3000, True, key), LATE, 20000)
 
 
@@ -217,12 +227,13 @@ def test_limits_of_what_is_open(codec: Codec) -> None:
     pushes(receiver, 0, (12, 3000, False, start))
     pushes(receiver, 0, (13, 3000, False, middle))
     pushes(receiver, 0, (14, 3000, True, end))
-    gives(receiver, 0, one(codec, 0, 10, key), one(codec, 3000, 11, slice_, last=14))
+    first = one(codec, 0, 10, key, is_clean=True)
+    gives(receiver, 0, first, one(codec, 3000, 11, slice_, last=14))
     assert receiver.counts() == Counts(taken=5, units=2, units_given_up=1)
 
     receiver = AccessUnitReceiver(codec, replace(AT_ONCE, unit_limit=2 * len(annex_b([slice_]))))
     pushes(receiver, 0, (10, 0, True, key))
-    gives(receiver, 0, one(codec, 0, 10, key))
+    gives(receiver, 0, first)
     for sequence in range(11, 14):
         pushes(receiver, 0, (sequence, 3000, False, slice_))
         gives(receiver, 0)
@@ -238,7 +249,8 @@ def test_the_end_of_a_stream_and_another_sender(codec: Codec) -> None:
     pushes(receiver, 0, (12, 3000, False, slice_))
     gives(receiver, 0)
     receiver.finish()
-    gives(receiver, 0, one(codec, 0, 10, key), one(codec, 3000, 12, slice_, missing=1))
+    first = one(codec, 0, 10, key, is_clean=True)
+    gives(receiver, 0, first, one(codec, 3000, 12, slice_, missing=1))
     assert receiver.deadline() is None
     # Any number is next, and then what waits is dropped.
     pushes(receiver, 0, (40000, 6000, True, key))
@@ -262,23 +274,28 @@ def test_refused_packets(codec: Codec) -> None:
     pushes(receiver, 0, (10, 0, True, key))
     pushes(receiver, 0, (11, 3000, True, refused[codec]))
     pushes(receiver, 0, (12, 6000, True, slice_))
-    gives(receiver, 0, one(codec, 0, 10, key), one(codec, 6000, 12, slice_, missing=1))
+    first = one(codec, 0, 10, key, is_clean=True)
+    gives(receiver, 0, first, one(codec, 6000, 12, slice_, missing=1))
     assert receiver.counts() == Counts(taken=2, lost=1, refused=1, units=2)
 
 
 def test_defaults() -> None:
     receiver, (key, slice_) = AccessUnitReceiver(Codec.H264), PICTURES[Codec.H264]
     assert receiver.codec is Codec.H264
-    pushes(receiver, 0, (1000, 0, True, key))
+    # The first packet waits for none, and without parameter sets it isn't clean.
+    pushes(receiver, 7, (1000, 0, True, key))
+    assert receiver.deadline() == 7
+    gives(receiver, 7, one(Codec.H264, 0, 1000, key))
+    # 1512 is 510 ahead of the one behind which 1001 is missing, 1513 a window of 512, less one.
+    pushes(receiver, 7, (1002, 3000, True, slice_))
     assert receiver.deadline() is None
-    # 1510 is 510 ahead of the first, 1511 a window of 512, less one.
-    pushes(receiver, 2**32 - 1, (1510, 3000, True, slice_))
+    pushes(receiver, 2**32 - 1, (1512, 6000, True, slice_))
     gives(receiver, 2**32 - 1)
-    pushes(receiver, 2**32 - 1, (1511, 6000, True, slice_))
-    gives(receiver, 2**32 - 1, one(Codec.H264, 0, 1000, key))
-    # The newest that waits is 1511: 4510 is 2999 ahead.
-    pushes(receiver, 0, (4511, 9000, True, slice_), STRAY)
-    pushes(receiver, 0, (4510, 9000, True, slice_))
+    pushes(receiver, 2**32 - 1, (1513, 9000, True, slice_))
+    gives(receiver, 2**32 - 1, one(Codec.H264, 3000, 1002, slice_, missing=1))
+    # The newest that waits is 1513: 4512 is 2999 ahead.
+    pushes(receiver, 0, (4513, 12000, True, slice_), STRAY)
+    pushes(receiver, 0, (4512, 12000, True, slice_))
     # 8,000,000 bytes may wait, and a packet.
     receiver = AccessUnitReceiver(Codec.H264, AccessUnitConfig(window=1 << 14))
     packet = b"\x61" + bytes(49_999)
@@ -336,6 +353,8 @@ def test_refused_settings() -> None:
         {"far": 2**16},
         {"max_wait": -1},
         {"max_wait": 2**32},
+        {"begin_wait": -1},
+        {"begin_wait": 2**32},
         {"held_limit": -1},
         {"run_limit": 2**64},
         {"unit_limit": -1},
@@ -362,6 +381,9 @@ def test_numbers_that_are_none(name: str, now: int, packet: Tuple[int, int, bool
     if name != "timestamp":
         with pytest.raises(ValueError, match=name):
             receiver.skip(now, packet[0])
+    if name == "sequence":
+        with pytest.raises(ValueError, match=name):
+            receiver.begin_at(packet[0])
     if name == "now":
         with pytest.raises(ValueError, match=name):
             receiver.next(now)
@@ -376,7 +398,7 @@ def test_forms_of_units(codec: Codec, packet: str) -> None:
     receiver = AccessUnitReceiver(codec, AT_ONCE, donl=True, avc=True)
     pushes(receiver, 0, (1, 0, True, some(packet)))
     unit = some(packet)[:2] + b"\xaa"
-    gives(receiver, 0, one(codec, 0, 1, unit, data=b"\0\0\0\3" + unit))
+    gives(receiver, 0, one(codec, 0, 1, unit, data=b"\0\0\0\3" + unit, is_clean=True))
 
 
 def test_long_access_units() -> None:

@@ -174,6 +174,7 @@ def closed_calls() -> List[Callable[[], Any]]:
         lambda: list(access_units.units(0)),
         access_units.deadline,
         access_units.missing,
+        lambda: access_units.begin_at(1),
         access_units.finish,
         access_units.restart,
         access_units.counts,

@@ -24,7 +24,19 @@ from h26x import (
     is_partition_tail,
     units,
 )
-from rfc import TYPES, Placed, annex_b, behind_lengths, is_key, placed, split, stream, type_of
+from rfc import (
+    SLICES,
+    TYPES,
+    Placed,
+    annex_b,
+    behind_lengths,
+    is_key,
+    placed,
+    role_of,
+    split,
+    stream,
+    type_of,
+)
 
 MTUS = (1200, 150, 70)
 
@@ -38,10 +50,9 @@ def sent(codec: Codec) -> List[bytes]:
 def access_units(codec: Codec) -> List[bytes]:
     """The stream in parts, each of which is one unit that is a picture's, with what is before it."""
     parts, part = [], b""
-    pictures = {Codec.H264: range(1, 6), Codec.H265: range(0, 32), Codec.H266: range(0, 12)}
     for unit in split(codec, stream(codec)):
         part += b"\0\0\0\1" + unit
-        if type_of(codec, unit) in pictures[codec]:
+        if type_of(codec, unit) in SLICES[codec]:
             parts.append(part)
             part = b""
     assert part == b""
@@ -194,14 +205,20 @@ class SentUnit(NamedTuple):
 
 
 def sent_units(codec: Codec, mtu: int) -> Tuple[List[bytes], List[SentUnit]]:
-    """The packets of a stream, and its access units, each of two slices with what is before them."""
+    """The packets of a stream, and its access units, each of two slices with what is before them, or of one
+    where parameter sets are behind that."""
     packets: List[bytes] = []
     found: List[SentUnit] = []
-    parts = access_units(codec)
+    pairs: List[List[bytes]] = []
+    for part in access_units(codec):
+        has_sets = "sps" in (role_of(codec, unit) for unit in split(codec, part))
+        if has_sets or not pairs or len(pairs[-1]) == 2:
+            pairs.append([])
+        pairs[-1].append(part)
     with Packetizer(codec) as packetizer:
-        for n in range(0, len(parts), 2):
+        for pair in pairs:
             first = len(packets)
-            packets += packetizer.packetize(mtu, b"".join(parts[n : n + 2]))
+            packets += packetizer.packetize(mtu, b"".join(pair))
             moved = [
                 Placed(one.first + first, one.last + first, one.unit)
                 for one in placed(codec, packets[first:])
@@ -215,26 +232,88 @@ def timestamp_of(unit: int) -> int:
     return 0xFFFF_0000 + unit * 3000 & 0xFFFF_FFFF
 
 
+class Decoder:
+    """What is known of one that is given access units: whether it can go on, which parameter sets came to
+    it since something was missing, how many temporal layers these tell, and whether any access unit came."""
+
+    def __init__(self, codec: Codec) -> None:
+        self.codec, self.goes_on, self.layers = codec, False, 0
+        self.sets: Set[str] = set()
+        self.has_begun = False
+
+    def takes(self, units_: Sequence[bytes], follows: bool, is_unbroken: bool) -> Tuple[bool, bool, bool]:
+        """Gives it the units that came of an access unit: whether this follows the one before, with nothing
+        missing between, and whether nothing is missing in it from its first packet that came on. Answers
+        whether it is whole, clean and disposable."""
+        codec, roles = self.codec, [role_of(self.codec, unit) for unit in units_]
+        is_whole = is_unbroken and (follows or self.is_front(roles))
+        self.has_begun = True
+        if not follows:
+            self.sets, self.layers = set(), 0
+        # What is behind the first slice tells nothing of the picture.
+        until = roles.index("slice") if "slice" in roles else len(roles)
+        came = set(roles[:until])
+        if "sps" in came:
+            sps = units_[roles.index("sps")]
+            # sps_max_sub_layers_minus1
+            self.layers = (sps[2] >> 1 & 7) + 1 if codec is Codec.H265 else 1
+        is_first, is_keyframe, is_disposable = False, False, False
+        if until < len(roles):
+            unit = units_[until]
+            is_keyframe = is_key(codec, unit)
+            if "header" in came:  # ph_non_ref_pic_flag
+                is_first = True
+                is_disposable = units_[roles.index("header")][2] & 0x40 > 0
+            elif codec is Codec.H264:  # first_mb_in_slice, nal_ref_idc
+                is_first, is_disposable = unit[1] >= 0x80, unit[0] & 0x60 == 0
+            elif codec is Codec.H265:
+                # first_slice_segment_in_pic_flag; sub-layer non-reference pictures of the highest layer
+                is_first = unit[2] >= 0x80
+                is_disposable = type_of(codec, unit) % 2 == 0 and unit[1] & 7 == self.layers
+            else:  # a picture header in the slice
+                is_first, is_disposable = unit[2] >= 0x80, unit[2] & 0xA0 == 0xA0
+        is_disposable &= not is_keyframe
+        wanted = {"vps", "sps", "pps"} if codec is Codec.H265 else {"sps", "pps"}
+        self.sets |= came
+        begins = is_unbroken and is_first and is_keyframe and wanted <= self.sets
+        goes_on = self.goes_on and follows and (is_unbroken or is_disposable)
+        self.goes_on = begins or goes_on
+        if not is_unbroken:
+            self.sets = set()
+        return is_whole, is_unbroken and self.goes_on, is_disposable
+
+    def is_front(self, roles: Sequence[str]) -> bool:
+        """Whether access units begin with the first of these, or the first one."""
+        if roles[:1] == ["vps"]:
+            return not self.has_begun
+        if roles[:1] == ["sps"]:
+            return self.codec is not Codec.H265 and not self.has_begun
+        return roles[:1] == ["delimiter"]
+
+
 def left(codec: Codec, found: Sequence[SentUnit], came: Set[int], first: int) -> List[AccessUnit]:
     """The access units that must be given out where these packets came, computed from these alone: of
-    each what its units are of which each packet came. It is whole where each came, with the one before,
-    and clean since a whole keyframe."""
+    each what its units are of which each packet came, and what a decoder can do with these."""
     given: List[AccessUnit] = []
-    before, is_clean = -1, False
+    before, decoder = -1, Decoder(codec)
     for n, sent_unit in enumerate(found):
         numbers = range(sent_unit.first, sent_unit.last + 1)
         there = [number for number in numbers if number in came]
         if not there:
             continue
+        follows = given != [] and there[0] - 1 == before
         before = there[0] - 1 if not given else before
         units_ = [
             one.unit
             for one in sent_unit.units
             if all(number in came for number in range(one.first, one.last + 1))
         ]
-        is_whole = len(there) == len(numbers) and numbers[0] - 1 in came
+        # From the first that came on, and that is none of the middle of a unit.
+        is_unbroken = there == list(range(there[0], numbers[-1] + 1)) and not any(
+            one.first < there[0] <= one.last for one in sent_unit.units
+        )
         is_keyframe = any(is_key(codec, unit) for unit in units_)
-        is_clean = is_whole and (is_keyframe or is_clean)
+        is_whole, is_clean, is_disposable = decoder.takes(units_, follows, is_unbroken)
         given.append(
             AccessUnit(
                 timestamp=timestamp_of(n),
@@ -242,6 +321,7 @@ def left(codec: Codec, found: Sequence[SentUnit], came: Set[int], first: int) ->
                 is_keyframe=is_keyframe if units_ else None,
                 is_whole=is_whole,
                 is_clean=is_clean,
+                is_disposable=is_disposable,
                 continues=False,
                 first=first + there[0] & 65535,
                 last=first + there[-1] & 65535,
@@ -253,7 +333,10 @@ def left(codec: Codec, found: Sequence[SentUnit], came: Set[int], first: int) ->
 
 
 #: By a window, and by the time that a packet is waited for.
-CONFIGS = (AccessUnitConfig(window=16), AccessUnitConfig(max_wait=30))
+CONFIGS = (
+    AccessUnitConfig(window=16, begin_wait=None),
+    AccessUnitConfig(max_wait=30, begin_wait=None),
+)
 
 
 @pytest.mark.parametrize("rates", [Rates(0, 0, 0), Rates(100, 0, 0), Rates(0, 200, 0), Rates(20, 50, 200)])
@@ -264,7 +347,7 @@ def test_access_units_through_losses(
 ) -> None:
     packets, found = sent_units(codec, mtu)
     of = {n: unit for unit, one in enumerate(found) for n in range(one.first, one.last + 1)}
-    whole = 0
+    whole, clean, disposable = 0, 0, 0
     for seed in range(5):
         coming = network(len(packets), rates, seed)
         # The numbers and the ticks go round in the middle of the stream.
@@ -293,8 +376,13 @@ def test_access_units_through_losses(
             whole=wholes,
         )
         whole += wholes
-    # Of the first nobody knows whether one was missing before it.
-    assert (whole < 5 * (len(found) - 1)) == (rates.lost > 0)
+        clean += sum(unit.is_clean for unit in wanted)
+        disposable += sum(unit.is_disposable for unit in wanted)
+    # The first begins with parameter sets, and is a keyframe.
+    assert (whole < 5 * len(found)) == (clean < 5 * len(found)) == (rates.lost > 0)
+    # Of the streams here that of H.265 alone has pictures that nothing refers to.
+    if rates.lost < 100:
+        assert clean > 0 and (disposable > 0) == (codec is Codec.H265)
 
 
 def test_a_lost_fragment_damages_a_unit_of_a_depacketizer(codec: Codec) -> None:

@@ -83,7 +83,8 @@ def test_each_number_is_taken_once() -> None:
 
 
 def test_each_access_unit_is_given_out_once() -> None:
-    receiver = AccessUnitReceiver(Codec.H264, AccessUnitConfig(max_wait=1 << 20))
+    waits = AccessUnitConfig(max_wait=1 << 20, begin_wait=1 << 20)
+    receiver = AccessUnitReceiver(Codec.H264, waits)
     given: List[int] = []
 
     def takes() -> None:

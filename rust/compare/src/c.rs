@@ -336,6 +336,13 @@ impl End {
         numbers
     }
 
+    /// Whether the number of the first packet is told in time.
+    pub fn begin_at(&mut self, sequence: u16) -> bool {
+        let mut in_time = 0;
+        unsafe { h26x_access_units_begin_at(&mut self.raw, sequence, &mut in_time) };
+        in_time == 1
+    }
+
     pub fn finish(&mut self) {
         unsafe { h26x_access_units_finish(&mut self.raw) };
     }

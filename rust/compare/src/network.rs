@@ -26,6 +26,39 @@ fn pushed(it: Result<Pushed, PacketError>) -> (u32, u32, u16) {
     }
 }
 
+/// Packets of pictures of each codec: parameter sets and a keyframe, a keyframe alone, another picture, one that nothing
+/// refers to, and one behind a delimiter.
+const PICTURES: [[&[u8]; 5]; 3] = [
+    [
+        &[
+            0x78, 0, 4, 0x67, 0x42, 0xc0, 0x1f, 0, 2, 0x68, 0xce, 0, 2, 0x65, 0x88,
+        ],
+        &[0x65, 0x88],
+        &[0x41, 0x9a],
+        &[0x01, 0x9a],
+        &[0x78, 0, 2, 0x09, 0xf0, 0, 2, 0x41, 0x9a],
+    ],
+    [
+        &[
+            0x60, 1, 0, 3, 0x40, 1, 0x0c, 0, 3, 0x42, 1, 1, 0, 3, 0x44, 1, 0xc1, 0, 3, 0x26, 1,
+            0xac,
+        ],
+        &[0x26, 1, 0xac],
+        &[0x02, 1, 0xd0],
+        &[0x00, 1, 0xd0],
+        &[0x60, 1, 0, 3, 0x46, 1, 0x50, 0, 3, 0x02, 1, 0xd0],
+    ],
+    [
+        &[
+            0, 0xe1, 0, 3, 0, 0x79, 0, 0, 3, 0, 0x81, 0, 0, 3, 0, 0x41, 0xc0,
+        ],
+        &[0, 0x41, 0xc0],
+        &[0, 0x01, 0xc0],
+        &[0, 0x01, 0xe0],
+        &[0, 0xe1, 0, 3, 0, 0xa1, 0x28, 0, 3, 0, 0x01, 0xc0],
+    ],
+];
+
 pub fn access_units(seed: u64, case: u64, ours: &mut Log, theirs: &mut Log) {
     let mut m = Making::new(seed ^ 0x51ab77, case);
     let codec = [Codec::H264, Codec::H265, Codec::H266][m.codec];
@@ -33,9 +66,11 @@ pub fn access_units(seed: u64, case: u64, ours: &mut Log, theirs: &mut Log) {
         window: m.random.of(&[1, 2, 3, 8, 64]),
         far: m.random.of(&[0, 1, 30, 3000]),
         max_wait: m.random.of(&[0, 10, 50, u32::MAX]),
+        begin_wait: m.random.of(&[0, 0, 10, 60, u32::MAX]),
         held_limit: m.random.of(&[20, 200, usize::MAX]),
         run_limit: m.random.of(&[3, 20, usize::MAX]),
         unit_limit: m.random.of(&[0, 12, 40, usize::MAX]),
+        has_sets: m.random.one_in(3),
     };
     let avc = m.random.one_in(3);
     let mut receiver = AccessUnitReceiver::with_settings(codec, m.has_donl, avc, config);
@@ -43,10 +78,12 @@ pub fn access_units(seed: u64, case: u64, ours: &mut Log, theirs: &mut Log) {
     let mut c_receiver = c::access_units(&header::Config {
         codec: number(codec),
         max_wait: config.max_wait,
+        begin_wait: config.begin_wait,
         window: config.window,
         far_away: config.far,
         numbers: m.has_donl,
         avc,
+        has_sets: config.has_sets,
         held_limit: config.held_limit,
         run_limit: config.run_limit,
         unit_limit: config.unit_limit,
@@ -56,7 +93,11 @@ pub fn access_units(seed: u64, case: u64, ours: &mut Log, theirs: &mut Log) {
     for _ in 0..m.random.between(4, 60) {
         sequence = m.next_number(sequence);
         now = now.wrapping_add(m.random.of(&[0, 0, 1, 7, 30]));
-        let (payload, marker) = (m.packet(), m.random.one_in(4));
+        let payload = match m.random.below(3) {
+            0 => m.random.of(&PICTURES[m.codec]).to_vec(),
+            _ => m.packet(),
+        };
+        let marker = m.random.one_in(4);
         if m.random.one_in(16) {
             ours.say("skip", pushed(receiver.skip(now, sequence)));
             beside! { theirs.say("skip", c_receiver.skip_unit_packet(now, sequence)); }
@@ -73,6 +114,10 @@ pub fn access_units(seed: u64, case: u64, ours: &mut Log, theirs: &mut Log) {
         if marker && !m.random.one_in(6) || m.random.one_in(12) {
             timestamp = timestamp.wrapping_add(3000);
         }
+        if m.random.one_in(20) {
+            ours.say("begins", receiver.begin_at(sequence.wrapping_add(1)));
+            beside! { theirs.say("begins", c_receiver.begin_at(sequence.wrapping_add(1))); }
+        }
         match m.random.below(60) {
             0 => {
                 receiver.finish();
@@ -81,6 +126,11 @@ pub fn access_units(seed: u64, case: u64, ours: &mut Log, theirs: &mut Log) {
             1 => {
                 receiver.restart();
                 beside! { c_receiver.restart_units(); }
+            }
+            2..5 => {
+                let first = sequence.wrapping_add(1);
+                ours.say("begins", receiver.begin_at(first));
+                beside! { theirs.say("begins", c_receiver.begin_at(first)); }
             }
             _ => {}
         }
@@ -91,6 +141,7 @@ pub fn access_units(seed: u64, case: u64, ours: &mut Log, theirs: &mut Log) {
             let is = (
                 unit.is_whole,
                 unit.is_clean,
+                unit.is_disposable,
                 unit.continues,
                 told(codec, unit.extra),
             );
@@ -121,7 +172,7 @@ pub fn access_units(seed: u64, case: u64, ours: &mut Log, theirs: &mut Log) {
         ours.say("counts", (gone, it.units, it.whole, given_up));
         beside! {
             while let Some((unit, bytes)) = c_receiver.next_unit(now) {
-                let is = (unit.is_whole, unit.is_clean, unit.continues, unit.extra);
+                let is = (unit.is_whole, unit.is_clean, unit.is_disposable, unit.continues, unit.extra);
                 theirs.say("unit", (unit.timestamp, unit.missing, unit.first, unit.last, is, bytes));
             }
             theirs.say("waits", (c_receiver.deadline(), c_receiver.missing()));

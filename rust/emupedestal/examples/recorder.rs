@@ -22,8 +22,8 @@ struct Recorder {
     socket: UdpSocket,
     file: File,
     receiver: AccessUnitReceiver,
-    /// Who sends: where from, with which SSRC, and from which number on.
-    sender: Option<(SocketAddr, u32, u16)>,
+    /// Who sends: where from, and with which SSRC.
+    sender: Option<(SocketAddr, u32)>,
     begin: Instant,
     /// When packets and a keyframe may be asked for again.
     retry: (u32, u32),
@@ -73,7 +73,7 @@ impl Recorder {
     fn take(&mut self, (payload_type, ssrc, packet): Rtp<'_>, from: SocketAddr) -> Outcome {
         if self.sender.is_none_or(|it| it.1 != ssrc) {
             self.receiver.restart();
-            self.sender = Some((from, ssrc, packet.sequence));
+            self.sender = Some((from, ssrc));
         }
         match payload_type {
             PAYLOAD_TYPE => self.receiver.push(self.now(), &packet)?,
@@ -96,12 +96,9 @@ impl Recorder {
         Ok(())
     }
 
-    /// Asks again for what is missing, and wasn't sent before the first packet (NACK: RFC 4585, 6.2.1).
+    /// Asks again for what is missing (NACK: RFC 4585, 6.2.1).
     fn ask_again(&mut self) -> Outcome {
-        let mut missing = self.receiver.missing()?;
-        let has_begun = self.receiver.counts().taken > 0;
-        let first = self.sender.map_or(0, |it| it.2);
-        missing.retain(|it| has_begun || it.wrapping_sub(first) < 1 << 15);
+        let missing = self.receiver.missing()?;
         if !missing.is_empty() && self.now() >= self.retry.0 {
             self.retry.0 = self.now() + RETRY;
             let each = missing.iter().map(|it| u32::from(*it) << 16);
@@ -112,7 +109,7 @@ impl Recorder {
 
     /// Sends feedback about the sender's packets, of format 1 (RFC 4585, 6.1).
     fn send(&self, packet_type: u32, about: &[u32]) -> Outcome {
-        if let Some((address, ssrc, _)) = self.sender {
+        if let Some((address, ssrc)) = self.sender {
             let front = 0x8100_0000 | packet_type << 16 | (2 + about.len() as u32);
             let words = [&[front, OWN_SSRC, ssrc], about].concat();
             let bytes: Vec<u8> = words.into_iter().flat_map(u32::to_be_bytes).collect();

@@ -6,22 +6,22 @@
 //!
 //! let config = AccessUnitConfig { window: 4, max_wait: 100, ..AccessUnitConfig::default() };
 //! let mut receiver = AccessUnitReceiver::new(Codec::H264, config);
-//! // Two fragments of a unit, which come in the other order, and a unit of the next picture.
-//! let packets: [(u16, u32, bool, &[u8]); 3] = [
-//!     (8, 3000, true, &[0x7c, 0x45, 2]),
-//!     (7, 3000, false, &[0x7c, 0x85, 1]),
-//!     (9, 6000, true, &[0x61, 9]),
-//! ];
-//! for (sequence, timestamp, marker, payload) in packets {
-//!     receiver.push(0, &RtpPacket { sequence, timestamp, marker, payload })?;
-//! }
-//! // Packets before the first may still come, so it is waited for these.
+//! // Parameter sets and a keyframe in one packet, and the second fragment of a unit of the next picture.
+//! let key = [0x78, 0, 4, 0x67, 0x42, 0xc0, 0x1f, 0, 2, 0x68, 0xce, 0, 2, 0x65, 0x88];
+//! let packet = RtpPacket { sequence: 7, timestamp: 3000, marker: true, payload: &key };
+//! receiver.push(0, &packet)?;
+//! let packet = RtpPacket { sequence: 9, timestamp: 6000, marker: true, payload: &[0x7c, 0x41, 2] };
+//! receiver.push(0, &packet)?;
+//! // The first access unit begins with its parameter sets, so nothing of it is missing.
+//! let first = receiver.next(0)?.unwrap();
+//! assert!(first.is_whole && first.is_clean);
 //! assert!(receiver.next(0)?.is_none());
-//! assert_eq!(receiver.deadline(), Some(100));
-//! let first = receiver.next(100)?.unwrap();
-//! assert_eq!(first.bytes, [0, 0, 0, 1, 0x65, 1, 2]);
-//! let second = receiver.next(100)?.unwrap();
-//! assert_eq!((second.timestamp, second.first, second.is_whole), (6000, 9, true));
+//! assert_eq!((receiver.missing()?, receiver.deadline()), (vec![8], Some(100)));
+//! let packet = RtpPacket { sequence: 8, timestamp: 6000, marker: false, payload: &[0x7c, 0x81, 1] };
+//! receiver.push(10, &packet)?;
+//! let second = receiver.next(10)?.unwrap();
+//! assert_eq!(second.bytes, [0, 0, 0, 1, 0x61, 1, 2]);
+//! assert_eq!((second.first, second.last, second.is_clean), (8, 9, true));
 //! # Ok::<(), emupedestal::PacketError>(())
 //! ```
 
@@ -36,17 +36,19 @@ pub use crate::proved::h26x_access_units::{
     AccessUnitConfig, Counts, NotPushed, NotPushedReason, Pushed, ReceivedAccessUnit,
 };
 
-/// A window of 512 packets and no limit on the time; a number 3000 or more away is a stray (RFC 3550,
-/// A.1); 8 MB for what waits and for an open access unit, and 4 MB for an open unit.
+/// A window of 512 packets and no limit on the time; nothing waits at the beginning of a stream; a number 3000 or
+/// more away is a stray (RFC 3550, A.1); 8 MB for what waits and for an open access unit, and 4 MB for an open unit.
 impl Default for AccessUnitConfig {
     fn default() -> Self {
         AccessUnitConfig {
             window: 512,
             far: 3000,
             max_wait: u32::MAX,
+            begin_wait: 0,
             held_limit: 8_000_000,
             run_limit: 4_000_000,
             unit_limit: 8_000_000,
+            has_sets: false,
         }
     }
 }
@@ -120,8 +122,9 @@ impl AccessUnitReceiver {
     }
 
     /// Takes a packet that came at this tick, and copies it if it is to wait: the one that is due is taken at
-    /// once where none waits and no access unit that ended is left. One without a payload came and bears nothing, as for [`skip`](Self::skip). The error is `OutOfMemory` alone; all stays as it was then,
-    /// and the packet can be given again.
+    /// once where none waits, none is known to be missing before it, and no access unit that ended is left. One without
+    /// a payload came and bears nothing, as for [`skip`](Self::skip). The error is `OutOfMemory` alone; all stays as it
+    /// was then, and the packet can be given again.
     pub fn push(&mut self, now: u32, packet: &RtpPacket<'_>) -> Result<Pushed, PacketError> {
         self.inner.try_push(now, packet)
     }
@@ -147,15 +150,23 @@ impl AccessUnitReceiver {
     }
 
     /// The numbers that are missing before packets that wait, in order: those to ask the sender for again (NACK, RFC
-    /// 4585, 6.2.1). The error is `OutOfMemory` alone.
+    /// 4585, 6.2.1). Of a stream that begins none is missing before the first packet that waits. The error is
+    /// `OutOfMemory` alone.
     pub fn missing(&self) -> Result<Vec<u16>, PacketError> {
         self.inner.missing()
     }
 
-    /// When to call [`next`](Self::next) again at the latest, if packets wait and there is a
-    /// `max_wait`.
+    /// When to call [`next`](Self::next) again at the latest, if packets wait and there is a `max_wait`, or of a
+    /// stream that begins a `begin_wait`.
     pub fn deadline(&self) -> Option<u32> {
         self.inner.deadline()
+    }
+
+    /// Says the number of the first packet of the stream, as a peer tells it (RTP-Info of RTSP, RFC 2326, 12.33):
+    /// packets from it on are waited for, and the first access unit is known to be whole where they came. `false`
+    /// where a packet came before; nothing is changed then.
+    pub fn begin_at(&mut self, sequence: u16) -> bool {
+        self.inner.begin_at(sequence)
     }
 
     /// At the end of a stream: all that waits is due, and once it was taken the open access unit ends, not known

@@ -2,6 +2,7 @@
 
 mod access_unit_receiver;
 mod access_units;
+mod access_units_told;
 mod assembler;
 mod caveats;
 mod codecs;

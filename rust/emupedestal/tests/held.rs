@@ -315,10 +315,10 @@ fn receiver_with_run(codec: Codec, packets: usize) -> (AccessUnitReceiver, isize
     let config = AccessUnitConfig {
         window: 1,
         far: 0,
-        max_wait: u32::MAX,
         held_limit: LONG_UNIT,
         run_limit: LONG_RUN,
         unit_limit: LONG_UNIT,
+        ..AccessUnitConfig::default()
     };
     let mut receiver = AccessUnitReceiver::new(codec, config);
     let before = HELD.get();

@@ -21,7 +21,7 @@ const DAMAGED: usize = 15;
 
 /// A picture in Annex B form: with its sets and an IDR slice, or a slice of another picture.
 fn picture(place: usize) -> Vec<u8> {
-    let slice = |header: u8| [&[0, 0, 0, 1, header], &[place as u8 + 1; 2000][..]].concat();
+    let slice = |header: u8| [&[0, 0, 0, 1, header, 0x88], &[place as u8 + 1; 2000][..]].concat();
     match place % 10 {
         0 => {
             let sets = [0, 0, 0, 1, 0x67, 0x42, 0xc0, 0x1f, 0, 0, 0, 1, 0x68, 0xce];
@@ -149,9 +149,8 @@ fn a_stream_with_losses() {
     recording.join().expect("no panic").expect("no failure");
     let recorded = fs::read(&path).expect("a file that was written");
     fs::remove_file(&path).expect("its file");
-    // From the second keyframe on, before which it isn't known whether a packet came; and where one is missing up to
-    // the next keyframe.
-    let pictures = (10..DAMAGED).chain(20..PICTURES);
+    // From the first keyframe on, and where a packet is missing again from the next one on.
+    let pictures = (0..DAMAGED).chain(20..PICTURES);
     let wanted: Vec<u8> = pictures.flat_map(picture).collect();
     assert!(
         recorded == wanted,
@@ -168,5 +167,5 @@ fn a_stream_with_losses() {
             sender.asked
         );
     }
-    assert!(sender.keyframes_asked > 0);
+    assert_eq!(sender.keyframes_asked, 1);
 }

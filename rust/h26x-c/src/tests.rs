@@ -136,31 +136,40 @@ fn structs_of_the_header() {
         (word + 13, word + 14)
     );
     assert_eq!(
-        (offset_of!(UnitTold, continues), size_of::<UnitTold>()),
+        (
+            offset_of!(UnitTold, is_disposable),
+            offset_of!(UnitTold, continues)
+        ),
         (word + 15, word + 16)
     );
+    assert_eq!(size_of::<UnitTold>(), (word + 17).next_multiple_of(word));
     assert_eq!(
         (offset_of!(Config, codec), offset_of!(Config, max_wait)),
         (0, 4)
     );
     assert_eq!(
-        (offset_of!(Config, window), offset_of!(Config, far_away)),
-        (8, 10)
+        (offset_of!(Config, begin_wait), offset_of!(Config, window)),
+        (8, 12)
     );
     assert_eq!(
-        (offset_of!(Config, numbers), offset_of!(Config, avc)),
-        (12, 13)
+        (offset_of!(Config, far_away), offset_of!(Config, numbers)),
+        (14, 16)
     );
+    assert_eq!(
+        (offset_of!(Config, avc), offset_of!(Config, has_sets)),
+        (17, 18)
+    );
+    let limits = 19usize.next_multiple_of(word);
     assert_eq!(
         (
             offset_of!(Config, held_limit),
             offset_of!(Config, run_limit)
         ),
-        (16, 16 + word)
+        (limits, limits + word)
     );
     assert_eq!(
         (offset_of!(Config, unit_limit), size_of::<Config>()),
-        (16 + 2 * word, 16 + 3 * word)
+        (limits + 2 * word, limits + 3 * word)
     );
     assert_eq!(
         (offset_of!(Counts, lost), offset_of!(Counts, units_given_up)),

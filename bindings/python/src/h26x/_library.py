@@ -53,10 +53,12 @@ class UnitsConfig(Structure):
     _fields_ = [
         ("codec", c_uint32),
         ("max_wait", c_uint32),
+        ("begin_wait", c_uint32),
         ("window", c_uint16),
         ("far_away", c_uint16),
         ("numbers", c_bool),
         ("avc", c_bool),
+        ("has_sets", c_bool),
         ("held_limit", c_size_t),
         ("run_limit", c_size_t),
         ("unit_limit", c_size_t),
@@ -75,6 +77,7 @@ class UnitTold(Structure):
         ("extra", c_uint8),
         ("is_whole", c_bool),
         ("is_clean", c_bool),
+        ("is_disposable", c_bool),
         ("continues", c_bool),
     ]
 
@@ -210,6 +213,7 @@ CALLS: Dict[str, Tuple[Any, List[Any]]] = {
     "access_units_next": (c_uint32, [_HANDLE, c_uint32, *_OUT, _UNIT]),
     "access_units_deadline": (c_bool, [_HANDLE, _WORD]),
     "access_units_missing": (c_uint32, [_HANDLE, *_OUT, _SIZE]),
+    "access_units_begin_at": (c_uint32, [_HANDLE, c_uint16, _WORD]),
     "access_units_finish": _DO,
     "access_units_restart": _DO,
     "access_units_count": (c_uint32, [_HANDLE, _COUNTS]),

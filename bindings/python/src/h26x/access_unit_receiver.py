@@ -60,12 +60,20 @@ class AccessUnitConfig:
     #: A missing packet is waited for so many ticks at most after one behind it came. None: by the
     #: window alone.
     max_wait: Optional[int] = None
+    #: A packet that begins the stream, the first of all and that behind `finish`, `restart` or Pushed.ANEW,
+    #: waits for those before it for so many ticks at most, and no longer than `max_wait` and `window` have
+    #: it. 0: it doesn't wait, and those before it are late once `next` was called. None: as long as these
+    #: have it.
+    begin_wait: Optional[int] = 0
     #: How many bytes of payloads may wait; past that none is waited for.
     held_limit: int = 8_000_000
     #: How many bytes of data an open unit may hold from a packet to the next.
     run_limit: int = 4_000_000
     #: How many bytes an open access unit may hold from a packet to the next.
     unit_limit: int = 8_000_000
+    #: The decoder has the parameter sets, as from the `sprop-*` of a session description, so that it can
+    #: begin with a keyframe that bears none.
+    has_sets: bool = False
 
 
 @dataclass(frozen=True)
@@ -79,11 +87,15 @@ class AccessUnit:
     #: Whether a unit of a keyframe is among them; None where there is no unit. See
     #: `Depacketized.is_keyframe`.
     is_keyframe: Optional[bool]
-    #: It is known that nothing of it is missing.
+    #: It is known that nothing of it is missing: its first packet follows the one before, or it begins
+    #: with a delimiter, or is the first one and begins with its parameter sets.
     is_whole: bool
-    #: Nor is anything since a keyframe of which nothing is: a decoder that began there goes on. Where it
-    #: is False ask the sender for a keyframe.
+    #: A decoder can show it. Nothing of it is missing, nor was since a keyframe that came from its first
+    #: slice on with its parameter sets, in it or before it in order, or it is one. Disposable pictures may
+    #: be missing in part. Where it is False ask the sender for a keyframe.
     is_clean: bool
+    #: No other picture refers to its own: those after it can be clean where it is damaged.
+    is_disposable: bool
     #: A marker ended one of its timestamp right before it, as where a peer sets the marker on each slice.
     continues: bool
     #: The number of the first packet that came of it.
@@ -133,7 +145,7 @@ class AccessUnitReceiver(Owner):
 
     One object may be used by several threads; one call at a time runs.
 
-    >>> receiver = AccessUnitReceiver(Codec.H264, AccessUnitConfig(window=4, max_wait=100))
+    >>> receiver = AccessUnitReceiver(Codec.H264, AccessUnitConfig(max_wait=100, begin_wait=20))
     >>> for packet in (  # two fragments of a unit, in the other order, and a unit of the next picture
     ...     RtpPacket(8, 3000, True, b"|E\\x02"),
     ...     RtpPacket(7, 3000, False, b"|\\x85\\x01"),
@@ -142,8 +154,8 @@ class AccessUnitReceiver(Owner):
     ...     outcome, _ = receiver.push(0, packet)
     >>> receiver.next(0)  # packets before the first may still come
     >>> receiver.deadline()
-    100
-    >>> [(unit.timestamp, unit.data.hex(), unit.is_whole) for unit in receiver.units(100)]
+    20
+    >>> [(unit.timestamp, unit.data.hex(), unit.is_whole) for unit in receiver.units(20)]
     [(3000, '00000001650102', False), (6000, '000000016109', True)]
     """
 
@@ -162,11 +174,13 @@ class AccessUnitReceiver(Owner):
         self._codec = codec_of(codec)
         wanted = UnitsConfig(
             codec=self._codec,
-            max_wait=_TICKS if config.max_wait is None else _tick("max_wait", config.max_wait),
+            max_wait=_wait("max_wait", config.max_wait),
+            begin_wait=_wait("begin_wait", config.begin_wait),
             window=number("window", config.window, 65535),
             far_away=number("far", config.far, 65535),
             numbers=donl,
             avc=avc,
+            has_sets=config.has_sets,
             held_limit=number("held_limit", config.held_limit),
             run_limit=number("run_limit", config.run_limit),
             unit_limit=number("unit_limit", config.unit_limit),
@@ -245,6 +259,7 @@ class AccessUnitReceiver(Owner):
             is_keyframe=KEYFRAME[unit.extra],
             is_whole=unit.is_whole,
             is_clean=unit.is_clean,
+            is_disposable=unit.is_disposable,
             continues=unit.continues,
             first=unit.first,
             last=unit.last,
@@ -258,14 +273,14 @@ class AccessUnitReceiver(Owner):
 
     def deadline(self) -> Optional[int]:
         """The tick at which to take access units at the latest, if packets wait and there is a
-        `max_wait`; else None."""
+        `max_wait`, or for the packet that begins the stream a `begin_wait`; else None."""
         at = c_uint32()
         return at.value if self._with_handle(library.h26x_access_units_deadline, byref(at)) else None
 
     def missing(self) -> List[int]:
         """The numbers that are missing before packets that wait, in order: those to ask the sender for
-        again (NACK; RFC 4585, 6.2.1). Of a stream that begins the first of them are those of the window
-        before the first packet, which may never have been sent. Raises OutOfMemory."""
+        again (NACK; RFC 4585, 6.2.1). Of a stream that begins none is missing before the first packet
+        that waits. Raises OutOfMemory."""
         count, call = c_size_t(), library.h26x_access_units_missing
         with self._lock:
             check(call(self._live(), None, 0, byref(count)))
@@ -275,6 +290,15 @@ class AccessUnitReceiver(Owner):
             room.grow(count.value * _EACH_NUMBER)
             check(call(self._live(), room.address, count.value, byref(count)))
         return room.view[: count.value * _EACH_NUMBER].cast("H").tolist()
+
+    def begin_at(self, sequence: int) -> bool:
+        """Says the number of the first packet of the stream, as a peer tells it (RTP-Info of RTSP, RFC 2326,
+        12.33): packets from it on are waited for, those before it are late, and the first access unit is
+        known to be whole where all of it came. Answers whether it is said in time: once a packet came, or
+        it was said, it changes nothing."""
+        in_time, call = c_uint32(), library.h26x_access_units_begin_at
+        check(self._with_handle(call, number("sequence", sequence, 65535), byref(in_time)))
+        return in_time.value == 1
 
     def finish(self) -> None:
         """At the end of a stream: all that waits is due, and once it was taken the open access unit
@@ -299,3 +323,8 @@ class AccessUnitReceiver(Owner):
 
 def _tick(name: str, value: int) -> int:
     return number(name, value, _TICKS)
+
+
+def _wait(name: str, value: Optional[int]) -> int:
+    """A number of ticks; None is without an end."""
+    return _TICKS if value is None else _tick(name, value)

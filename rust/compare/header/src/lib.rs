@@ -43,10 +43,12 @@ pub struct Shown {
 pub struct Config {
     pub codec: u32,
     pub max_wait: u32,
+    pub begin_wait: u32,
     pub window: u16,
     pub far_away: u16,
     pub numbers: bool,
     pub avc: bool,
+    pub has_sets: bool,
     pub held_limit: usize,
     pub run_limit: usize,
     pub unit_limit: usize,
@@ -64,6 +66,7 @@ pub struct Unit {
     pub extra: u8,
     pub is_whole: bool,
     pub is_clean: bool,
+    pub is_disposable: bool,
     pub continues: bool,
 }
 
@@ -204,6 +207,7 @@ unsafe extern "C" {
         numbers_room: usize,
         count: *mut usize,
     ) -> u32;
+    pub fn h26x_access_units_begin_at(u: *mut Raw, sequence: u16, in_time: *mut u32) -> u32;
     pub fn h26x_access_units_finish(u: *mut Raw) -> u32;
     pub fn h26x_access_units_restart(u: *mut Raw) -> u32;
     pub fn h26x_access_units_count(u: *const Raw, counts: *mut [u64; 12]) -> u32;

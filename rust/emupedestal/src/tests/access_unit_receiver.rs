@@ -18,6 +18,7 @@ fn config(window: u16, max_wait: u32) -> AccessUnitConfig {
         held_limit: 1000,
         run_limit: 1000,
         unit_limit: 1000,
+        ..AccessUnitConfig::default()
     }
 }
 
@@ -95,7 +96,13 @@ fn packets_in_any_order_across_the_end_of_numbers() {
 fn a_packet_that_is_missing_is_waited_for_so_long() {
     // The clock goes round within the wait.
     let start = u32::MAX - 5;
-    let mut it = receiver(100, 10);
+    let mut it = AccessUnitReceiver::new(
+        Codec::H264,
+        AccessUnitConfig {
+            begin_wait: u32::MAX,
+            ..config(100, 10)
+        },
+    );
     push(&mut it, start, (7, 10, true, "65aa")).unwrap();
     assert_eq!(it.deadline(), Some(start.wrapping_add(10)));
     assert!(units(&mut it, start.wrapping_add(9)).is_empty());
@@ -161,31 +168,13 @@ fn markers_on_each_slice_and_timestamps_that_go_on() {
 }
 
 #[test]
-fn clean_since_a_whole_keyframe() {
-    let mut it = receiver(1, u32::MAX);
-    for packet in [
-        (1, 10, true, "61aa"),
-        (2, 20, true, "65bb"),
-        (3, 30, true, "61cc"),
-        (5, 50, true, "61dd"),
-        (6, 60, true, "61ee"),
-        (7, 70, true, "65ff"),
-    ] {
-        push(&mut it, 0, packet).unwrap();
-    }
-    let clean: Vec<bool> = units(&mut it, 0).iter().map(|it| it.is_clean).collect();
-    assert_eq!(clean, [false, true, true, false, false, true]);
-}
-
-#[test]
 fn the_end_of_a_stream_and_another_sender() {
     let mut it = receiver(100, u32::MAX);
     push(&mut it, 0, (7, 10, true, "65aa")).unwrap();
     push(&mut it, 0, (9, 20, false, "61bb")).unwrap();
-    assert!(units(&mut it, 0).is_empty());
+    assert_eq!(told(&units(&mut it, 0)), [(10, 7, 7, 0, false, false)]);
     it.finish();
-    let wanted = [(10, 7, 7, 0, false, false), (20, 9, 9, 1, false, false)];
-    assert_eq!(told(&units(&mut it, 0)), wanted);
+    assert_eq!(told(&units(&mut it, 0)), [(20, 9, 9, 1, false, false)]);
     push(&mut it, 0, (40000, 30, false, "61cc")).unwrap();
     it.restart();
     it.finish();
@@ -198,6 +187,7 @@ fn more_bytes_than_the_limit() {
     let mut it = AccessUnitReceiver::new(
         Codec::H264,
         AccessUnitConfig {
+            begin_wait: u32::MAX,
             held_limit: 5,
             ..config(100, u32::MAX)
         },
@@ -302,6 +292,7 @@ fn drawn_packets_beside_a_buffer_and_a_receiver() {
     for round in 0..200 {
         let window = 1 + (draw(&mut state) % 9) as u16;
         let limits = AccessUnitConfig {
+            begin_wait: u32::MAX,
             held_limit: usize::MAX,
             ..config(window, u32::MAX)
         };

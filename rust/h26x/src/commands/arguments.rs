@@ -70,6 +70,8 @@ pub struct Looking {
     pub window: u16,
     /// For how many milliseconds a packet is waited for; `u32::MAX`: by the window alone.
     pub wait: u32,
+    /// For how many the first one waits for those before it.
+    pub begin_wait: u32,
     pub run_limit: usize,
     /// Parameter sets that a session description has.
     pub sets: Vec<Vec<u8>>,
@@ -299,6 +301,7 @@ impl Words {
             wait: self
                 .number("--wait", 0, MOST_WAIT)?
                 .map_or(u32::MAX, |it| it as u32),
+            begin_wait: self.number("--begin-wait", 0, MOST_WAIT)?.unwrap_or(0) as u32,
             run_limit: self.number("--run-limit", 1, 1 << 30)?.unwrap_or(16 << 20) as usize,
             sets: described.map(|it| it.sets).unwrap_or_default(),
             seconds: self.seconds(&input)?,

@@ -127,6 +127,12 @@ pub static GROUPS: [Group; 5] = [
                  (by the window alone)",
             ),
             with(
+                "--begin-wait",
+                "MS",
+                "the first packet waits so many milliseconds at most, within --window and --wait, \
+                 for those before it (0)",
+            ),
+            with(
                 "--for",
                 "SECONDS",
                 "ends a live stream after this time (the first Ctrl-C ends it)",

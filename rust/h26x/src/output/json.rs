@@ -115,6 +115,7 @@ pub fn unit(
             "continues": unit.continues,
             "whole": unit.is_whole,
             "clean": unit.is_clean,
+            "disposable": unit.is_disposable,
         }),
     )
 }

@@ -224,6 +224,7 @@ fn about_unit(unit: &ReceivedAccessUnit) -> String {
         (unit.is_whole, "whole"),
         (!unit.is_whole, "not known to be whole"),
         (unit.is_clean, "clean"),
+        (unit.is_disposable, "disposable"),
     ];
     let facts = facts.into_iter().filter(|it| it.0).map(|it| it.1);
     let facts: Vec<&str> = facts.collect();

@@ -11,6 +11,7 @@ use crate::streams::numbers::Numbers;
 use crate::streams::payload::fragment;
 use crate::streams::refusals::reason;
 use crate::streams::runs::{Left, Runs};
+use crate::streams::sets::are_enough;
 use crate::streams::tally::Tally;
 use crate::streams::told::{Became, Fate, Outcome, Tell, Told};
 use crate::streams::waiting::{Kept, Waiting};
@@ -85,9 +86,11 @@ impl Reception {
             window: looking.window + 1,
             far: 0,
             max_wait: looking.wait,
+            begin_wait: looking.begin_wait,
             held_limit: usize::MAX,
             run_limit,
             unit_limit: usize::MAX,
+            has_sets: are_enough(codec, &looking.sets),
         };
         let receiver = AccessUnitReceiver::with_settings(codec, has_donl, has_lengths, config);
         Reception {
@@ -201,7 +204,11 @@ impl Reception {
         let mut step = self.step()?;
         if step.passed == 0 {
             self.waiting.put(packet, due);
-            return Ok(());
+            // An access unit may have ended before it, behind numbers that are missing.
+            return match self.end_step(step, tell)? {
+                true => self.drain(tell),
+                false => Ok(()),
+            };
         }
         let sequence = packet.rtp.sequence;
         let is_last = step.unit.as_ref().is_some_and(|it| it.last == sequence);

@@ -8,6 +8,17 @@ use std::collections::HashSet;
 /// So many bytes are looked through for a picture.
 const FRONT: usize = 1 << 16;
 
+/// Whether a decoder needs no others.
+pub fn are_enough(codec: Codec, sets: &[Vec<u8>]) -> bool {
+    let needed: &[u8] = match codec {
+        Codec::H264 => &[7, 8],
+        Codec::H265 => &[32, 33, 34],
+        Codec::H266 => &[15, 16],
+    };
+    let is_there = |kind: &u8| sets.iter().any(|it| unit_type(codec, it) == Some(*kind));
+    needed.iter().all(is_there)
+}
+
 pub struct Sets {
     codec: Codec,
     /// Those that aren't put anywhere yet.

@@ -32,7 +32,7 @@ pub struct Tally {
     pub too_long: u64,
     pub access_units: u64,
     pub keyframes: u64,
-    /// Access units that are known to be whole, and those behind a whole keyframe with nothing missing.
+    /// Access units that are known to be whole, and those that a decoder can show.
     pub whole: u64,
     pub clean: u64,
     pub rates: Rates,
@@ -190,10 +190,7 @@ impl Tally {
     pub fn known(&self) -> Vec<String> {
         let counts = [
             (self.whole, "known to be whole"),
-            (
-                self.clean,
-                "clean: nothing is missing since a whole keyframe",
-            ),
+            (self.clean, "clean: nothing that a decoder needs is missing"),
         ];
         let counts = counts.into_iter();
         counts

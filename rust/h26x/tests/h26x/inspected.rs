@@ -55,14 +55,14 @@ fn packets_of_h264() {
             "    9     0.002000           0       4  FU-A S      IDR slice  keyframe",
             "   10     0.003000           0       4  FU-A -      IDR slice",
             "   11     0.004000           0 M     3  FU-A E      IDR slice",
-            "      = access unit of 7 to 11, 33 bytes: keyframe, not known to be whole",
+            "      = access unit of 7 to 11, 33 bytes: keyframe, whole, clean",
             "   12     0.005000        3000 M     3  single      slice 3",
-            "      = access unit of 12, 7 bytes: whole",
+            "      = access unit of 12, 7 bytes: whole, clean",
             "   13     0.006000        6000 M     3  FU-A S      slice",
             "      = access unit of 13, 0 bytes: not known to be whole",
             "1 unit: left out, for want of a packet",
-            "1 access unit: known to be whole",
-            "0 access units: clean: nothing is missing since a whole keyframe",
+            "2 access units: known to be whole",
+            "2 access units: clean: nothing that a decoder needs is missing",
             "7 packets of 33 bytes, 3 access units, 1 keyframe",
         ],
     );
@@ -71,12 +71,14 @@ fn packets_of_h264() {
 /// RFC 7798, 4.4: aggregates, fragments, a PACI packet of an IDR slice.
 #[test]
 fn packets_of_h265() {
-    let sets = [0x60, 1, 0, 3, 0x40, 1, 0x0c, 0, 3, 0x42, 1, 1];
+    let sets = [
+        0x60, 1, 0, 3, 0x40, 1, 0x0c, 0, 3, 0x42, 1, 1, 0, 3, 0x44, 1, 0xc1,
+    ];
     let sent: [(u32, bool, &[u8]); 5] = [
         (0, false, &sets),
         (0, false, &[0x62, 1, 0x93, 0xaf, 1]),
         (0, true, &[0x62, 1, 0x53, 2]),
-        (3000, true, &[0x02, 1, 0xd0, 9]),
+        (3000, true, &[0x00, 1, 0xd0, 9]),
         (6000, true, &[0x64, 1, 0x26, 0x10, 0x77, 0xaf, 1]),
     ];
     says(
@@ -84,17 +86,17 @@ fn packets_of_h265() {
         &[],
         0,
         &[
-            "    7     0.000000           0      12  AP          VPS 3, SPS 3",
+            "    7     0.000000           0      17  AP          VPS 3, SPS 3, PPS 3",
             "    8     0.001000           0       5  FU S        IDR_W_RADL  keyframe",
             "    9     0.002000           0 M     4  FU E        IDR_W_RADL",
-            "      = access unit of 7 to 9, 23 bytes: keyframe, not known to be whole",
-            "   10     0.003000        3000 M     4  single      TRAIL_R 4",
-            "      = access unit of 10, 8 bytes: whole",
+            "      = access unit of 7 to 9, 30 bytes: keyframe, whole, clean",
+            "   10     0.003000        3000 M     4  single      TRAIL_N 4",
+            "      = access unit of 10, 8 bytes: whole, clean, disposable",
             "   11     0.004000        6000 M     7  PACI        IDR_W_RADL 4  keyframe",
             "      = access unit of 11, 8 bytes: keyframe, whole, clean",
-            "2 access units: known to be whole",
-            "1 access unit: clean: nothing is missing since a whole keyframe",
-            "5 packets of 32 bytes, 3 access units, 2 keyframes",
+            "3 access units: known to be whole",
+            "3 access units: clean: nothing that a decoder needs is missing",
+            "5 packets of 37 bytes, 3 access units, 2 keyframes",
         ],
     );
 }
@@ -119,7 +121,7 @@ fn packets_of_h265_with_numbers() {
             "      = access unit of 7 to 9, 22 bytes: not known to be whole",
             "1 unit: left out, for want of a packet",
             "0 access units: known to be whole",
-            "0 access units: clean: nothing is missing since a whole keyframe",
+            "0 access units: clean: nothing that a decoder needs is missing",
             "3 packets of 27 bytes, 1 access unit, 0 keyframes",
         ],
     );
@@ -155,15 +157,15 @@ fn packets_of_h266() {
                     "    8     0.001000           0 M {:5}  single      IDR_N_LP 4  keyframe",
                     4 + len
                 ),
-                "      = access unit of 7 to 8, 23 bytes: keyframe, not known to be whole",
+                "      = access unit of 7 to 8, 23 bytes: keyframe, whole, clean",
                 "    9     0.002000          90 M     6  FU SE       CRA  keyframe",
                 // The number stands before its data.
                 &format!(
                     "      = access unit of 9, {} bytes: keyframe, whole, clean",
                     9 - len
                 ),
-                "1 access unit: known to be whole",
-                "1 access unit: clean: nothing is missing since a whole keyframe",
+                "2 access units: known to be whole",
+                "2 access units: clean: nothing that a decoder needs is missing",
                 &format!(
                     "3 packets of {} bytes, 2 access units, 2 keyframes",
                     23 + 2 * len
@@ -203,7 +205,7 @@ fn what_is_lost_refused_and_late() {
             "1 packet: put before those that came earlier",
             "refused: 1 packet, the first is 10: type 30 is undefined or reserved; a payload needs type 1 to 23, 24 (STAP-A) or 28 (FU-A) (RFC 6184, 5.2)",
             "2 access units: known to be whole",
-            "0 access units: clean: nothing is missing since a whole keyframe",
+            "0 access units: clean: nothing that a decoder needs is missing",
             "6 packets of 17 bytes, 4 access units, 0 keyframes",
         ],
     );

@@ -76,7 +76,13 @@ fn packets_in_another_order() {
     came.swap(0, 1);
     came.swap(10, 14);
     came[20..30].reverse();
-    receives(&came, &[], &wanted).says(0, &["packets: put before those that came earlier"]);
+    let ran = receives(&came, &["--begin-wait", "1"], &wanted);
+    ran.says(0, &["packets: put before those that came earlier"]);
+    // The first waits for none unless it is said for how long; the other comes 1 ms behind it.
+    for options in [&[][..], &["--begin-wait", "0"]] {
+        let ran = receives(&came, options, &wanted[1..]);
+        ran.says(0, &["1 packet: not taken, come twice or too late"]);
+    }
     // Without a window each packet behind a later one is late, and lost where it should stand.
     came = slices([20, 22, 21, 23]);
     let ran = receives(&came, &["--window", "0"], &slices([20, 22, 23]));
@@ -156,7 +162,7 @@ fn numbers_that_go_back() {
 #[test]
 fn packets_in_reverse() {
     let reverse = slices((100..200).rev());
-    let ran = receives(&reverse, &[], &slices(167..200));
+    let ran = receives(&reverse, &["--begin-wait", "1000"], &slices(167..200));
     ran.says(3, &["67 packets: not taken, come twice or too late"]);
 }
 

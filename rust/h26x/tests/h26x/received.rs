@@ -33,6 +33,14 @@ fn whole(count: u8) -> Vec<u8> {
     [0, 0, 0, 1, 0x65].into_iter().chain(data).collect()
 }
 
+/// Parameter sets in one packet that ends its access unit, and their text.
+fn sets(sequence: u16) -> Rtp {
+    let payload = [0x78, 0, 4, 0x67, 0x42, 0xc0, 0x1f, 0, 2, 0x68, 0xce];
+    Rtp::new(sequence, 0, true, &payload)
+}
+
+const SETS: [u8; 14] = [0, 0, 0, 1, 0x67, 0x42, 0xc0, 0x1f, 0, 0, 0, 1, 0x68, 0xce];
+
 /// The units of packets that hold one each.
 fn units(packets: &[Rtp]) -> Vec<u8> {
     let unit = |it: &Rtp| [&[0, 0, 0, 1][..], &it.payload].concat();
@@ -113,7 +121,7 @@ fn a_sender_that_begins_anew_20_000_back() {
 /// empty packet, as some senders keep a path open with.
 #[test]
 fn packets_without_a_payload() {
-    let mut came = slices([6]);
+    let mut came = vec![sets(6)];
     let [first, last] = <[Rtp; 2]>::try_from(fragments(7, 2, |i| i == 1))
         .ok()
         .expect("two");
@@ -124,10 +132,10 @@ fn packets_without_a_payload() {
         ..last
     });
     came.extend(slices([10]));
-    let wanted = [units(&slices([6])), whole(2), units(&slices([10]))].concat();
+    let wanted = [&SETS[..], &whole(2), &units(&slices([10]))].concat();
     receives(&came, &[], &wanted).says(0, &["1 packet: of padding alone"]);
     let wanted = [
-        json!([6, 6, 0, false, false, false]),
+        json!([6, 6, 0, false, true, false]),
         json!([7, 9, 0, false, true, true]),
         json!([10, 10, 0, false, true, true]),
     ];
@@ -138,14 +146,14 @@ fn packets_without_a_payload() {
 /// the first, and isn't known to be whole, but it is clean, and so is what is behind.
 #[test]
 fn a_marker_on_each_slice() {
-    let mut came = slices([6]);
+    let mut came = vec![sets(6)];
     came.push(Rtp::new(7, 77, true, &[0x65, 0x88, 0]));
     came.extend([8, 9].map(|it| Rtp::new(it, 900, true, &[0x41, it as u8])));
     came.extend(slices([10]));
-    let wanted = [units(&slices([6])), whole(1), units(&came[2..])].concat();
+    let wanted = [&SETS[..], &whole(1), &units(&came[2..])].concat();
     receives(&came, &[], &wanted).says(0, &["5 access units"]);
     let wanted = [
-        json!([6, 6, 0, false, false, false]),
+        json!([6, 6, 0, false, true, false]),
         json!([7, 7, 0, false, true, true]),
         json!([8, 8, 0, false, true, true]),
         json!([9, 9, 0, true, false, true]),
@@ -157,41 +165,95 @@ fn a_marker_on_each_slice() {
 /// A marker on a fragment behind which its unit goes on ends nothing.
 #[test]
 fn a_marker_on_each_fragment() {
-    let mut came = slices([6]);
+    let mut came = vec![sets(6)];
     came.extend(fragments(7, 3, |_| true));
     came.extend(slices([10]));
-    let wanted = [units(&slices([6])), whole(3), units(&slices([10]))].concat();
+    let wanted = [&SETS[..], &whole(3), &units(&slices([10]))].concat();
     receives(&came, &[], &wanted).says(0, &["3 access units, 1 keyframe"]);
     assert_eq!(access_units(&came)[1], json!([7, 9, 0, false, true, true]));
 }
 
 /// Of a unit of which a fragment is missing nothing is written, and what follows isn't clean before the next
-/// whole keyframe.
+/// keyframe with its parameter sets.
 #[test]
 fn a_loss_inside_a_fragmented_unit() {
-    let mut came = slices([6]);
+    let mut came = vec![sets(6)];
     came.extend(fragments(7, 3, |i| i == 2));
     came.remove(2);
     came.extend(slices([10]));
-    came.extend(fragments(11, 2, |i| i == 1).into_iter().map(|it| Rtp {
+    came.push(sets(11));
+    came.extend(fragments(12, 2, |i| i == 1).into_iter().map(|it| Rtp {
         timestamp: 78,
         ..it
     }));
-    came.extend(slices([13]));
-    let wanted = [units(&slices([6, 10])), whole(2), units(&slices([13]))].concat();
+    came.extend(slices([14]));
+    let wanted = [
+        &SETS[..],
+        &units(&slices([10])),
+        &SETS,
+        &whole(2),
+        &units(&slices([14])),
+    ]
+    .concat();
     let told = [
         "lost: 1 packet: 1 before 9",
         "1 unit: left out, for want of a packet",
     ];
     receives(&came, &[], &wanted).says(3, &told);
     let wanted = [
-        json!([6, 6, 0, false, false, false]),
+        json!([6, 6, 0, false, true, false]),
         json!([7, 9, 1, false, false, false]),
         json!([10, 10, 0, false, true, false]),
-        json!([11, 12, 0, false, true, true]),
-        json!([13, 13, 0, false, true, true]),
+        json!([11, 11, 0, false, true, false]),
+        json!([12, 13, 0, false, true, true]),
+        json!([14, 14, 0, false, true, true]),
     ];
     assert_eq!(access_units(&came), wanted);
+    // So it isn't without them.
+    came.remove(4);
+    for it in &mut came[4..] {
+        it.sequence -= 1;
+    }
+    let all = access_units(&came);
+    assert_eq!(all[3], json!([11, 12, 0, false, true, false]));
+}
+
+/// Behind a gap another timestamp ends the access unit before, which isn't whole; its own is told by itself, and isn't
+/// known to be whole without a delimiter.
+#[test]
+fn a_loss_between_access_units() {
+    let mut came = vec![sets(6)];
+    came.extend(fragments(7, 2, |_| false));
+    came.push(Rtp {
+        timestamp: 78,
+        marker: false,
+        ..sets(10)
+    });
+    came.extend(fragments(11, 2, |i| i == 1).into_iter().map(|it| Rtp {
+        timestamp: 78,
+        ..it
+    }));
+    let wanted = [&SETS[..], &whole(2), &SETS, &whole(2)].concat();
+    for window in ["32", "0"] {
+        let ran = receives(&came, &["--window", window], &wanted);
+        ran.says(3, &["lost: 1 packet: 1 before 10", "3 access units"]);
+    }
+    let wanted = [
+        json!([6, 6, 0, false, true, false]),
+        json!([7, 8, 0, false, false, false]),
+        json!([10, 12, 1, false, false, true]),
+    ];
+    assert_eq!(access_units(&came), wanted);
+}
+
+/// By nal_ref_idc (H.264, 7.4.1).
+#[test]
+fn a_picture_that_nothing_refers_to() {
+    for (header, is_disposable) in [(0x01, true), (0x41, false)] {
+        let packet = Rtp::new(7, 77, true, &[header, 0x9a, 1]);
+        let unit = &told(&[packet], "access unit")[0];
+        assert_eq!(unit["disposable"], is_disposable);
+    }
 }
 
 /// Packets that come again a window later change nothing.
@@ -210,8 +272,8 @@ fn duplicates_a_window_late() {
     assert_eq!(access_units(&came), access_units(&in_order));
 }
 
-/// A packet is waited for so long as `--wait` says, by the times of the capture, whose frames are 1 ms apart; so it
-/// is with the first packet, before which others may come. A capture's time may go back.
+/// A packet is waited for so long as `--wait` says, by the times of the capture, whose frames are 1 ms apart. A
+/// capture's time may go back.
 #[test]
 fn the_wait_ends() {
     let mut numbers: Vec<u16> = (100..120).filter(|it| *it != 110).collect();

@@ -322,12 +322,15 @@ fn what_is_not_written() {
     assert_eq!(folder.names(), ["h266.pcap", "in.pcap"]);
 }
 
-/// Of a slice, a keyframe, a slice, a gap and a slice the keyframe and what follows it are clean.
+/// Of a slice, a keyframe with its parameter sets, a slice, a gap and a slice the keyframe and what follows it are clean.
 #[test]
 fn clean_access_units_alone() {
+    let key = [
+        0x78, 0, 4, 0x67, 0x42, 0xc0, 0x1f, 0, 2, 0x68, 0xce, 0, 3, 0x65, 0x88, 2,
+    ];
     let payloads: [(u16, &[u8]); 5] = [
         (1, &[0x41, 0x9a, 1]),
-        (2, &[0x65, 0x88, 2]),
+        (2, &key),
         (3, &[0x41, 0x9a, 3]),
         (5, &[0x41, 0x9a, 5]),
         (6, &[0x41, 0x9a, 6]),
@@ -337,8 +340,11 @@ fn clean_access_units_alone() {
     folder.write("in.pcap", &pcap_with(&payloads.map(packet)));
     folder
         .run(&["receive", "in.pcap", "out.h264", "--clean"])
-        .says(3, &["5 access units", "14 bytes written"]);
-    let written = [0, 0, 0, 1, 0x65, 0x88, 2, 0, 0, 0, 1, 0x41, 0x9a, 3];
+        .says(3, &["5 access units", "28 bytes written"]);
+    let written = [
+        0, 0, 0, 1, 0x67, 0x42, 0xc0, 0x1f, 0, 0, 0, 1, 0x68, 0xce, 0, 0, 0, 1, 0x65, 0x88, 2, 0,
+        0, 0, 1, 0x41, 0x9a, 3,
+    ];
     assert_eq!(folder.read("out.h264"), written);
 }
 

@@ -257,6 +257,15 @@ fn sets_that_the_stream_has_not() {
             assert_eq!(folder.read("back.h264"), wanted.collect::<Vec<u8>>());
         }
     }
+    // A decoder that has both can begin with the first picture, and with one of them it can't.
+    for (sets, clean) in [("Z2QAKA==,aM4=", 1), ("Z2QAKA==", 0), ("aM4=", 0)] {
+        let line = line.replace("Z2QAKA==,aM4=", sets);
+        folder.write("one.sdp", format!("v=0\n{line}").as_bytes());
+        folder.write("in.pcap", &pcap_with(&[Rtp::new(0, 0, true, slice)]));
+        let ran = folder.run(&["inspect", "in.pcap", "--sdp", "one.sdp", "--json"]);
+        let has_clean = ran.out.contains(&format!("\"clean\":{clean},"));
+        assert!(has_clean, "{sets}: {ran:#?}");
+    }
     // Through a pipe they go out with the first picture.
     folder.write(
         "in.pcap",

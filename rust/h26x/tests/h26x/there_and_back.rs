@@ -46,6 +46,24 @@ fn there_and_back(codec: &str, stream: &[u8], sending: &[&str], receiving: &[&st
     back
 }
 
+/// All access units of a stream that came without a loss are whole and clean, from the first one on.
+#[test]
+fn all_that_came_is_clean() {
+    for (codec, stream) in small_streams() {
+        let folder = Folder::new();
+        let input = format!("in.{codec}");
+        folder.write(&input, &stream);
+        folder.run(&["send", &input, "out.pcap"]).says(0, &[]);
+        let ran = folder.run(&["inspect", "out.pcap", "--json"]);
+        let totals = ran.out.lines().last().expect("totals");
+        let totals: serde_json::Value = serde_json::from_str(totals).expect("an object");
+        assert_ne!(totals["access_units"], 0, "{codec}");
+        for what in ["whole", "clean"] {
+            assert_eq!(totals[what], totals["access_units"], "{codec}: {totals}");
+        }
+    }
+}
+
 #[test]
 fn small_streams_come_back() {
     for (codec, stream) in small_streams() {

@@ -53,11 +53,11 @@ fn objects_of_json() {
         object.as_object_mut().expect("an object").extend(more);
         object
     };
-    let unit = |sequence: u16, seconds: f64, bytes: usize, missing: u32| {
+    let unit = |sequence: u16, seconds: f64, bytes: usize, missing: u32, is_whole: bool| {
         json!({
             "is": "access unit", "seconds": seconds, "timestamp": u32::from(sequence) * 90, "bytes": bytes,
             "keyframe": false, "first": sequence, "last": sequence, "missing": missing,
-            "continues": false, "whole": false, "clean": false,
+            "continues": false, "whole": is_whole, "clean": false, "disposable": false,
         })
     };
     let slice = json!([{"type": "slice", "bytes": 3}]);
@@ -75,7 +75,7 @@ fn objects_of_json() {
                 "units": [{"type": "SPS", "bytes": 4}, {"type": "PPS", "bytes": 2}],
             }),
         ),
-        unit(5, 0.0, 14, 0),
+        unit(5, 0.0, 14, 0, true),
         with(
             common(6, 0.001, true, 3),
             json!({
@@ -83,14 +83,14 @@ fn objects_of_json() {
                 "units": [{"type": "IDR slice", "first": true, "last": false}],
             }),
         ),
-        unit(6, 0.001, 0, 0),
+        unit(6, 0.001, 0, 0, false),
         with(
             common(9, 0.002, true, 3),
             json!({
                 "became": "taken", "gave_up": true, "lost_before": 2, "units": slice,
             }),
         ),
-        unit(9, 0.002, 7, 2),
+        unit(9, 0.002, 7, 2, false),
         with(
             common(9, 0.003, true, 3),
             json!({"became": "late", "units": slice}),
@@ -112,7 +112,7 @@ fn objects_of_json() {
         ("bytes", 22),
         ("access_units", 3),
         ("keyframes", 0),
-        ("whole", 0),
+        ("whole", 1),
         ("clean", 0),
         ("lost", 2),
         ("refused", 0),

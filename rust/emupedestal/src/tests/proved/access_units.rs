@@ -8,16 +8,18 @@ use crate::proved::h26x_depacketizer::RunDepacketizer;
 use crate::proved::h26x_reorder::RtpPacket;
 use crate::proved::h264_payload::H264Depacketizer;
 
-/// The settings of the tests: a window of 4 packets, a wait of 100 ticks, 20 bytes; a number so far
-/// from the one due is a stray.
+/// The settings of the tests: a window of 4 packets, a wait of 100 ticks, at the beginning too, 20 bytes; a number so
+/// far from the one due is a stray.
 fn config(far: u16) -> AccessUnitConfig {
     AccessUnitConfig {
         window: 4,
         far,
         max_wait: 100,
+        begin_wait: u32::MAX,
         held_limit: 20,
         run_limit: 1000,
         unit_limit: 1000,
+        ..AccessUnitConfig::default()
     }
 }
 
@@ -96,9 +98,13 @@ fn walk(far: u16, steps: &[Step<'_>]) {
     }
 }
 
-/// A keyframe's slice, another slice, and the fragments of a keyframe's slice of three bytes (RFC
-/// 6184, 5.6 and 5.8).
-const KEY: &[u8] = &[0x65, 1];
+/// Parameter sets and a keyframe's first slice in one packet, such a slice alone, another slice, and the fragments of
+/// a keyframe's slice of three bytes (RFC 6184, 5.6 to 5.8).
+const SETS_AND_KEY: &[u8] = &[
+    0x78, 0, 4, 0x67, 0x42, 0xc0, 0x1f, 0, 2, 0x68, 0xce, 0, 2, 0x65, 0x88,
+];
+
+const KEY: &[u8] = &[0x65, 0x88];
 
 const SLICE: &[u8] = &[0x61, 2];
 
@@ -118,11 +124,11 @@ fn a_stream_that_begins_waits() {
         0,
         &[
             Step::Deadline(None),
-            Step::Push(7, 65534, 0, true, KEY, Pushed::Held),
+            Step::Push(7, 65534, 0, true, SETS_AND_KEY, Pushed::Held),
             Step::None(7),
             Step::Deadline(Some(107)),
             Step::None(106),
-            Step::Unit(107, 0, 6, [false, false, false], 65534, 65534, 0),
+            Step::Unit(107, 0, 20, [true, true, false], 65534, 65534, 0),
             Step::Push(108, 65535, 3000, true, KEY, Pushed::Held),
             Step::Unit(108, 3000, 6, [true, true, false], 65535, 65535, 0),
             Step::Push(109, 0, 6000, true, SLICE, Pushed::Held),
@@ -133,10 +139,12 @@ fn a_stream_that_begins_waits() {
             Step::Push(110, 700, 9000, false, MIDDLE, Pushed::Held),
             Step::Push(110, 701, 9000, true, END, Pushed::Held),
             Step::Push(110, 702, 12000, true, KEY, Pushed::Held),
-            Step::Missing(&[697, 698, 699]),
+            // Whether any before the first is missing isn't known.
+            Step::Missing(&[]),
             Step::None(209),
             Step::Unit(210, 9000, 0, [false, false, false], 700, 701, 0),
-            Step::Unit(210, 12000, 6, [true, true, false], 702, 702, 0),
+            // No parameter sets came.
+            Step::Unit(210, 12000, 6, [true, false, false], 702, 702, 0),
         ],
     );
 }
@@ -146,8 +154,8 @@ fn packets_missing_late_and_twice() {
     walk(
         0,
         &[
-            Step::Push(0, 10, 0, true, KEY, Pushed::Held),
-            Step::Unit(100, 0, 6, [false, false, false], 10, 10, 0),
+            Step::Push(0, 10, 0, true, SETS_AND_KEY, Pushed::Held),
+            Step::Unit(100, 0, 20, [true, true, false], 10, 10, 0),
             // The middle fragment comes last, the first one twice.
             Step::Push(100, 11, 3000, false, START, Pushed::Held),
             Step::None(100),
@@ -181,8 +189,8 @@ fn markers_and_numbers_that_bear_nothing() {
     walk(
         0,
         &[
-            Step::Push(0, 10, 0, true, KEY, Pushed::Held),
-            Step::Unit(100, 0, 6, [false, false, false], 10, 10, 0),
+            Step::Push(0, 10, 0, true, SETS_AND_KEY, Pushed::Held),
+            Step::Unit(100, 0, 20, [true, true, false], 10, 10, 0),
             // A marker on each slice.
             Step::Push(100, 11, 3000, true, KEY, Pushed::Held),
             Step::Push(100, 12, 3000, true, SLICE, Pushed::Held),
@@ -208,11 +216,11 @@ fn markers_and_numbers_that_bear_nothing() {
             Step::Unit(101, 12000, 0, [false, false, true], 21, 21, 0),
             Step::Unit(101, 15000, 6, [true, false, false], 22, 22, 0),
             // Equal timestamps without a marker are one, and behind a marker go on with it.
-            Step::Push(102, 23, 18000, false, KEY, Pushed::Held),
+            Step::Push(102, 23, 18000, false, SETS_AND_KEY, Pushed::Held),
             Step::Push(102, 24, 18000, false, SLICE, Pushed::Held),
             Step::Push(102, 25, 21000, true, SLICE, Pushed::Held),
             Step::Push(102, 26, 21000, true, KEY, Pushed::Held),
-            Step::Unit(102, 18000, 12, [true, true, false], 23, 24, 0),
+            Step::Unit(102, 18000, 26, [true, true, false], 23, 24, 0),
             Step::Unit(102, 21000, 6, [true, true, false], 25, 25, 0),
             Step::Unit(102, 21000, 6, [false, true, true], 26, 26, 0),
             Step::None(102),
@@ -229,6 +237,7 @@ fn told<D: RunDepacketizer>(
 ) -> Option<(bool, bool, usize)> {
     let settings = AccessUnitConfig {
         held_limit: 1000,
+        has_sets: true,
         ..config(0)
     };
     let mut receiver = AccessUnitReceiver::new(depacketizer, settings);
@@ -262,28 +271,28 @@ fn starts_in_a_row() {
     // codec and whether packets bear numbers (RFC 6184, 5.8; RFC 7798, 4.4.3; RFC 9328, 4.3.3).
     let h264: [&[u8]; 5] = [KEY, START, MIDDLE, END, &[0x7c, 0xc5, 9]];
     let h265: [&[u8]; 5] = [
-        &[0x26, 1, 1],
+        &[0x26, 1, 0xac],
         &[0x62, 1, 0x93, 1],
         &[0x62, 1, 0x13, 2],
         &[0x62, 1, 0x53, 3],
         &[0x62, 1, 0xd3, 9],
     ];
     let h265_numbered: [&[u8]; 5] = [
-        &[0x26, 1, 0, 7, 1],
+        &[0x26, 1, 0, 7, 0xac],
         &[0x62, 1, 0x93, 0, 8, 1],
         &[0x62, 1, 0x13, 2],
         &[0x62, 1, 0x53, 3],
         &[0x62, 1, 0xd3, 0, 9, 9],
     ];
     let h266: [&[u8]; 5] = [
-        &[0, 0x39, 1],
+        &[0, 0x39, 0xc0],
         &[0, 0xe9, 0x87, 1],
         &[0, 0xe9, 0x07, 2],
         &[0, 0xe9, 0x47, 3],
         &[0, 0xe9, 0xc7, 9],
     ];
     let h266_numbered: [&[u8]; 5] = [
-        &[0, 0x39, 0, 7, 1],
+        &[0, 0x39, 0, 7, 0xc0],
         &[0, 0xe9, 0x87, 0, 8, 1],
         &[0, 0xe9, 0x07, 2],
         &[0, 0xe9, 0x47, 3],
