@@ -458,7 +458,9 @@ typedef struct {
                            * begins with a delimiter, or is the first one and begins with its parameter sets */
     bool is_clean;        /**< a decoder can show it: nothing of it is missing, nor was since a keyframe that came from its
                            * first slice on with its parameter sets, in it or before it in order, or it is one. Pictures
-                           * that are disposable may be missing in part. False: ask the sender for a keyframe */
+                           * that are disposable may be missing in part; sets that are lost with them aren't noticed. RASL
+                           * pictures behind a CRA with which a decoder begins, which it passes over, are clean too. A first
+                           * slice is looked for among 64 units. False: ask the sender for a keyframe */
     bool is_disposable;   /**< no other picture refers to its own: those after it can be clean where it is damaged */
     bool continues;       /**< a marker ended one of its timestamp right before it, as where a peer sets the marker on each
                            * slice */

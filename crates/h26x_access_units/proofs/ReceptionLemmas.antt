@@ -248,10 +248,6 @@ idle_next now s is =
 pub none_more : (now : ℕ) (s : Reception) → IsDrained now s s
 none_more now s = none
 
--- one more packet that was taken
-pub one_more : (now : ℕ) (s t u : Reception) → IsDrained now s t → t.assembler.ended ≡ [] → IsDueTaken now t u → IsDrained now s u
-one_more now s t u before empty taken = more before empty taken
-
 -- so of a step
 pub one_step : (now : ℕ) (s t u : Reception) → IsDrained now s t → t.assembler.ended ≡ [] → IsStep now t u → IsDrained now s u
 one_step now s t u before empty (ended_alone it has) = behind before empty it

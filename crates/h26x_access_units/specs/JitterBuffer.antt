@@ -43,13 +43,13 @@ fresh_jitter config = record {
 
 -- whether the number of the first packet may be told: none came, none is told, and the stream hasn't
 -- ended
-abbrev pub may_begin : JitterState → Bool
-may_begin j = not j.is_over && not (is_some j.buffer.due)
+abbrev pub may_tell_first : JitterState → Bool
+may_tell_first j = not j.is_over && not (is_some j.buffer.due)
 
 -- the same once it is told: it is due
 abbrev pub begun_jitter : ℕ → JitterState → JitterState
 begun_jitter number j =
-    if may_begin j then record j { buffer = begun_at number j.buffer; has_begun = true } else j
+    if may_tell_first j then record j { buffer = begun_at number j.buffer; has_begun = true } else j
 
 -- settings with this limit on the bytes that wait
 abbrev pub with_held_limit : ℕ → AccessUnitConfig → AccessUnitConfig

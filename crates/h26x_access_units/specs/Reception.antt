@@ -17,7 +17,7 @@ use Rattle.h26x_access_units.specs.declared.numbers.NumbersSoFar.{NumbersSoFar}
 use Rattle.h26x_access_units.specs.declared.pushed.Pushed.{Pushed}
 use Rattle.h26x_access_units.specs.declared.pushed.Pushed.TheVariants as pushes
 use Rattle.h26x_access_units.specs.Counts.{no_counts, counted_push, counted_dropped, counted_due, counted_unit, counted_reason}
-use Rattle.h26x_access_units.specs.JitterBuffer.{JitterState, may_begin, begun_jitter, longest_wait, awaited, is_far, jitter_answer, after_jitter, due_packet, without_due, fresh_jitter, with_held_limit, waits_for_none}
+use Rattle.h26x_access_units.specs.JitterBuffer.{JitterState, may_tell_first, begun_jitter, longest_wait, awaited, is_far, jitter_answer, after_jitter, due_packet, without_due, fresh_jitter, with_held_limit, waits_for_none}
 use Rattle.h26x_access_units.specs.Numbers.{fresh_numbers, after_missing, begun_numbers_at, bears_nothing, numbers_after, after_last, first_ended, without_first_ended}
 use Rattle.h26x_access_units.specs.ReceivedAccessUnit.{ReceivedAccessUnitValue, received_unit, decoder_with, whole_with, received_unit_value}
 use Rattle.std.specs.Option.{option_map}
@@ -70,7 +70,7 @@ fresh_reception config state = reception (fresh_jitter config) None false
 -- where the number of the first packet is told before one came: it is due and expected
 abbrev pub begun_reception : ℕ → Reception → Reception
 begun_reception number s =
-    if may_begin s.waiting
+    if may_tell_first s.waiting
     then record s {
       waiting = begun_jitter number s.waiting;
       assembler = record s.assembler { expected = Some number };

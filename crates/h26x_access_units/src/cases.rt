@@ -1,6 +1,6 @@
 //! Worked cases of the definitions, each the contract of a function without a result.
 
-ghost use Rattle.std.specs.Prelude.{◌≡◌, ℕ, List, true, false, ◌-◌, ◌^◌, None, Some, Ok, Err, [], ◌∷◌};
+ghost use Rattle.std.specs.Prelude.{◌≡◌, ℕ, Bool, List, true, false, ◌-◌, ◌^◌, None, Some, Ok, Err, [], ◌∷◌};
 ghost use Rattle.h26x_access_units.specs.Arrival.{arrival_of, without_number, not_passed, is_first_passed, deadline_of, has_waited};
 ghost use Rattle.h26x_access_units.specs.Missing.{missing_numbers};
 ghost use Rattle.h26x_access_units.specs.Numbers.{missing_sum, missing_up_to, fresh_numbers, numbers_after};
@@ -16,11 +16,11 @@ ghost use Rattle.h26x_access_units.specs.Reception.{fresh_reception, is_taken_at
 ghost use Rattle.h26x_access_units.specs.Limits.{IsWithinLimits};
 ghost use Rattle.h26x_core.specs.declared.extra.CodecExtra.TheVariants as extras;
 ghost use Rattle.h26x_access_units.specs.declared.content.UnitKind.TheVariants as kinds;
-ghost use Rattle.h26x_access_units.specs.Content.{no_sets, all_sets, no_content, slice, h264_kind, h265_kind, h266_kind, content_of};
+ghost use Rattle.h26x_access_units.specs.Content.{no_sets, all_sets, no_content, slice, h264_kind, h265_kind, h266_kind, content_from, content_of};
 ghost use Rattle.h26x_access_units.specs.Decoder.{fresh_decoder, are_enough, is_front, is_disposable, tells_whole, shows, decoder_after};
 ghost use Rattle.h26x_access_units.specs.Numbers.{numbers_of_none, begun_numbers};
 ghost use Rattle.h26x_access_units.specs.JitterBuffer.{due_packet, awaited, longest_wait, with_packet};
-ghost use Rattle.h26x_access_units.specs.Reception.{begun_reception, begins_behind_missing, ended_behind_missing};
+ghost use Rattle.h26x_access_units.specs.Reception.{begun_reception, expected_for, begins_behind_missing, ended_behind_missing};
 
 use h26x_core::PacketError;
 use h26x_receiver::Received;
@@ -225,6 +225,8 @@ pub fn texts_up_to_the_first_slice()
           picture_header = Some true;
           slice = Some (slice true false true 0);
         } }
+    ensures most { (is_avc : Bool) (text : List ℕ) → content_of is_avc extras.None text
+        ≡ content_from is_avc extras.None 64 no_content text }
     ensures short { content_of true (extras.H264 (record { is_keyframe = false })) (0 ∷ 0 ∷ 0 ∷ [])
         ≡ no_content }
     ensures nothing { content_of false extras.None (0 ∷ 0 ∷ 1 ∷ 0x67 ∷ [])
@@ -387,6 +389,9 @@ pub fn access_units_behind_missing_numbers()
         let a = record (fresh_reception config state).assembler
         { expected = Some 7; unit = Some (empty_unit 20) } in
         begins_behind_missing a (9, rtp_body 20 false (0x61 ∷ [])) ≡ false }
+    ensures expected { expected_for None (9, rtp_body 20 false (0x61 ∷ [])) ≡ Some 9 }
+    ensures expected_none { expected_for None (9, rtp_body 20 false []) ≡ None }
+    ensures expected_other { expected_for (Some 7) (9, rtp_body 20 false (0x61 ∷ [])) ≡ Some 7 }
     ensures nothing { (config : AccessUnitConfig) (state : DepacketizerState) →
         let a = record (fresh_reception config state).assembler { expected = Some 7 } in
         begins_behind_missing a (9, rtp_body 20 false []) ≡ false }

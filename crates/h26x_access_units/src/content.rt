@@ -2,6 +2,7 @@
 
 ghost use Rattle.std.specs.Prelude.{◌≡◌, get_or};
 ghost use Rattle.std.specs.Option.{option_map};
+ghost use Rattle.h26x_cut.specs.Cutting.{behind_first_code};
 ghost use Rattle.h26x_access_units.specs.Content.{joined_sets, h264_kind, h265_kind, h266_kind, content_kind, with_kind, first_unit, content_of};
 
 use h26x_core::CodecExtra;
@@ -30,6 +31,7 @@ impl ParameterSets {
     };
 
     /// These and others.
+    #[inline]
     pub(crate) fn joined(self, others: Self) -> Self
         ensures { result ≡ joined_sets self others }
     {
@@ -97,6 +99,7 @@ fn byte_at(unit: &[u8], place: usize) -> u8
 }
 
 /// The kind of an H.264 unit (Recommendation H.264, 7.3.1, 7.3.3, table 7-1).
+#[inline]
 fn h264_kind(unit: &[u8]) -> UnitKind
     ensures { result ≡ h264_kind unit.now }
 {
@@ -117,6 +120,7 @@ fn h264_kind(unit: &[u8]) -> UnitKind
 
 /// The kind of an H.265 unit; no header has a temporal layer of 0 (Recommendation H.265, 7.3.1.2,
 /// 7.3.2.2, 7.3.6.1, table 7-1).
+#[inline]
 fn h265_kind(unit: &[u8]) -> UnitKind
     ensures { result ≡ h265_kind unit.now }
 {
@@ -142,6 +146,7 @@ fn h265_kind(unit: &[u8]) -> UnitKind
 
 /// The kind of an H.266 unit; no header has a temporal layer of 0 (Recommendation H.266, 7.3.1.2,
 /// 7.3.2.8, 7.3.7, table 5).
+#[inline]
 fn h266_kind(unit: &[u8]) -> UnitKind
     ensures { result ≡ h266_kind unit.now }
 {
@@ -167,6 +172,7 @@ fn h266_kind(unit: &[u8]) -> UnitKind
 }
 
 /// The kind of a unit, by what is told of its codec; where nothing is told any other.
+#[inline]
 fn content_kind(extra: CodecExtra, unit: &[u8]) -> UnitKind
     ensures { result ≡ content_kind extra unit.now }
 {
@@ -178,12 +184,28 @@ fn content_kind(extra: CodecExtra, unit: &[u8]) -> UnitKind
     }
 }
 
+/// What stands behind the first start code of a text. That of four bytes, with which texts are written,
+/// is looked for at the front first, which takes no search.
+#[inline]
+fn behind_first_code(text: &[u8]) -> Option<&[u8]>
+    ensures { option_map (λ rest. rest.now) result ≡ behind_first_code text.now }
+{
+    if text.len() < 4 {
+        return behind_code(text);
+    }
+    if u32::from_be_bytes([text[0], text[1], text[2], text[3]]) == 1 {
+        return Some(&text[4..]);
+    }
+    behind_code(text)
+}
+
 /// What stands of a text from its first unit on, and behind what precedes the next one.
+#[inline]
 fn first_unit(is_avc: bool, text: &[u8]) -> Option<(&[u8], &[u8])>
     ensures { option_map (λ it. (it.0.now, it.1.now)) result ≡ first_unit is_avc text.now }
 {
     if !is_avc {
-        let unit = behind_code(text)?;
+        let unit = behind_first_code(text)?;
         return Some((unit, unit));
     }
     if text.len() < 4 {
@@ -205,6 +227,7 @@ impl Content {
     };
 
     /// The same with a unit more.
+    #[inline]
     fn with(mut self, kind: UnitKind) -> Self
         ensures { result ≡ with_kind self kind }
     {
@@ -236,6 +259,7 @@ impl Content {
 }
 
 /// What the units of a text tell, up to the first slice; behind 64 units none is looked at.
+#[inline]
 pub(crate) fn content_of(is_avc: bool, extra: CodecExtra, text: &[u8]) -> Content
     ensures { result ≡ content_of is_avc extra text.now }
 {

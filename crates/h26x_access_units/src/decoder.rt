@@ -22,6 +22,7 @@ pub(crate) struct DecoderState {
 }
 
 /// Whether a decoder needs no other parameter sets.
+#[inline]
 fn are_enough(extra: CodecExtra, sets: ParameterSets) -> bool
     ensures { result ≡ are_enough extra sets }
 {
@@ -33,6 +34,7 @@ fn are_enough(extra: CodecExtra, sets: ParameterSets) -> bool
 }
 
 /// Whether the first slice is the first of a keyframe.
+#[inline]
 fn is_first_key(content: Content) -> bool
     ensures { result ≡ is_first_key content.slice }
 {
@@ -44,6 +46,7 @@ fn is_first_key(content: Content) -> bool
 
 impl DecoderState {
     /// Before any access unit.
+    #[inline]
     pub(crate) fn fresh() -> Self
         ensures { result ≡ fresh_decoder }
     {
@@ -57,6 +60,7 @@ impl DecoderState {
 
     /// Whether a unit stands at the front of its access unit, by its kind, and whether that is the
     /// first.
+    #[inline]
     pub(crate) fn is_front(self, extra: CodecExtra, first: Option<UnitKind>) -> bool
         ensures { result ≡ is_front self extra first }
     {
@@ -73,6 +77,7 @@ impl DecoderState {
 
     /// Whether no picture refers to that of an access unit before which its sequence parameter set
     /// came.
+    #[inline]
     fn is_disposable_at(highest_layer: u8, content: Content) -> bool
         ensures { result ≡ is_disposable highest_layer content.slice }
     {
@@ -87,6 +92,7 @@ impl DecoderState {
     }
 
     /// The sets that came in order before an access unit.
+    #[inline]
     fn sets_before(self, numbers: AccessUnitNumbers) -> ParameterSets
         ensures { result ≡ sets_before self numbers }
     {
@@ -98,6 +104,7 @@ impl DecoderState {
     }
 
     /// Those that came in order, with its own.
+    #[inline]
     fn sets_after(
         self,
         is_unbroken: bool,
@@ -115,6 +122,7 @@ impl DecoderState {
 
     /// The highest temporal layer that sequence parameter sets tell: its own, or those of the last one
     /// that had some, where no number is missing between access units since.
+    #[inline]
     fn layer_after(self, numbers: AccessUnitNumbers, content: Content) -> u8
         ensures { result ≡ layer_after self numbers content }
     {
@@ -128,6 +136,7 @@ impl DecoderState {
     }
 
     /// Whether no picture refers to that of an access unit.
+    #[inline]
     pub(crate) fn is_disposable(self, numbers: AccessUnitNumbers, content: Content) -> bool
         ensures { result ≡ is_disposable (layer_after self numbers content) content.slice }
     {
@@ -135,6 +144,7 @@ impl DecoderState {
     }
 
     /// Whether a decoder can begin with an access unit.
+    #[inline]
     fn can_begin(
         self,
         has_sets: bool,
@@ -152,6 +162,7 @@ impl DecoderState {
     }
 
     /// Whether a decoder that could go on before an access unit can go on behind it.
+    #[inline]
     fn can_go_on(self, is_unbroken: bool, numbers: AccessUnitNumbers, content: Content) -> bool
         ensures { result ≡ can_go_on self is_unbroken numbers content }
     {
@@ -159,6 +170,7 @@ impl DecoderState {
     }
 
     /// Whether an access unit is told to be whole, which is unbroken from its first packet on or isn't.
+    #[inline]
     pub(crate) fn tells_whole(
         self,
         is_unbroken: bool,
@@ -174,6 +186,7 @@ impl DecoderState {
     }
 
     /// Whether a decoder can show an access unit behind which it is so.
+    #[inline]
     pub(crate) fn shows(self, is_unbroken: bool) -> bool
         ensures { result ≡ shows self is_unbroken }
     {
@@ -181,6 +194,7 @@ impl DecoderState {
     }
 
     /// Once an access unit is given out, which is unbroken from its first packet on or isn't.
+    #[inline]
     pub(crate) fn after(
         self,
         has_sets: bool,

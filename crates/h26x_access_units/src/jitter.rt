@@ -7,7 +7,7 @@ ghost use Rattle.h26x_reorder.specs.ReorderBuffer.{numbered_packet, goes_straigh
 ghost use Rattle.h26x_access_units.specs.Arrival.{deadline_of, has_waited};
 ghost use Rattle.h26x_access_units.specs.Pushed.{IsNotPushedReason, not_pushed_reason};
 ghost use Rattle.h26x_access_units.specs.Missing.{numbers_from, missing_numbers, AreExactlyMissing};
-ghost use Rattle.h26x_access_units.specs.JitterBuffer.{with_packet, newest_of, is_far, with_held_limit, fresh_jitter, held_bytes, is_past_limit, is_full, is_pressed, jitter_answer, after_jitter, longest_wait, awaited, may_begin, begun_jitter, due_packet, without_due, waits_for_none};
+ghost use Rattle.h26x_access_units.specs.JitterBuffer.{with_packet, newest_of, is_far, with_held_limit, fresh_jitter, held_bytes, is_past_limit, is_full, is_pressed, jitter_answer, after_jitter, longest_wait, awaited, may_tell_first, begun_jitter, due_packet, without_due, waits_for_none};
 
 use crate::arrival::{Arrival, from_at, let_go};
 use crate::config::AccessUnitConfig;
@@ -391,7 +391,7 @@ impl JitterBuffer {
     /// the RTP-Info of RTSP (RFC 2326, 12.33). The answer is whether none came, no number was told
     /// before, and the stream hasn't ended.
     pub fn begin_at(&mut self, number: u16) -> bool
-        ensures told { result ≡ may_begin self.old }
+        ensures told { result ≡ may_tell_first self.old }
         ensures after { self.new ≡ begun_jitter number self.old }
     {
         if self.is_over {

@@ -8,7 +8,7 @@ ghost use Rattle.h26x_reorder.specs.Rtp.{rtp_body};
 ghost use Rattle.h26x_reorder.specs.ReorderBuffer.{numbered_packet};
 ghost use Rattle.h26x_access_units.specs.Pushed.{IsNotPushedReason, is_kept, not_pushed_reason};
 ghost use Rattle.h26x_access_units.specs.Counts.{counted_due};
-ghost use Rattle.h26x_access_units.specs.JitterBuffer.{may_begin};
+ghost use Rattle.h26x_access_units.specs.JitterBuffer.{may_tell_first};
 ghost use Rattle.h26x_assembler.specs.Assembler.{assembly_at, gives_text_up};
 ghost use Rattle.h26x_assembler.specs.AccessUnit.{is_text_given_up};
 ghost use Rattle.h26x_assembler.specs.declared.access_unit.AccessUnit.{AccessUnit};
@@ -680,7 +680,7 @@ impl<D: RunDepacketizer> AccessUnitReceiver<D> {
     /// memory.
     pub fn begin_at(&mut self, sequence: u16) -> bool
         ensures told { let r = ⟦<Self as Receives>⟧.reception in
-            result ≡ may_begin (r self.old).waiting }
+            result ≡ may_tell_first (r self.old).waiting }
         ensures after { let r = ⟦<Self as Receives>⟧.reception in
             r self.new ≡ begun_reception sequence (r self.old) }
     {

@@ -5,7 +5,7 @@ use Rattle.h26x_access_units.specs.declared.config.AccessUnitConfig.{AccessUnitC
 use Rattle.h26x_access_units.specs.declared.pushed.Pushed.{Pushed}
 use Rattle.h26x_access_units.specs.declared.pushed.Pushed.TheVariants as pushes
 use Rattle.h26x_access_units.specs.Arrival.{deadline_of}
-use Rattle.h26x_access_units.specs.JitterBuffer.{may_begin, longest_wait, awaited}
+use Rattle.h26x_access_units.specs.JitterBuffer.{may_tell_first, longest_wait, awaited}
 use Rattle.h26x_access_units.specs.Missing.{missing_numbers}
 use Rattle.h26x_access_units.specs.ReceivedAccessUnit.{ReceivedAccessUnitValue}
 use Rattle.h26x_access_units.specs.Reception.{Reception, fresh_reception, begun_reception, reception_answer, restarted, ended_if_anew, IsPushed, IsDrained, IsNext}
@@ -144,7 +144,7 @@ units_missing it =
 
 -- whether the number of the first packet may be told
 abbrev pub is_begun_in_time : UnitsState → Bool
-is_begun_in_time it = may_begin it.reception.waiting
+is_begun_in_time it = may_tell_first it.reception.waiting
 
 -- once it is told: it is due
 abbrev pub units_begun : ℕ → UnitsState → UnitsState

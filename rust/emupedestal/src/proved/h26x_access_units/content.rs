@@ -28,6 +28,7 @@ impl ParameterSets {
     };
 
     /// These and others.
+    #[inline]
     pub(crate) fn joined(self, others: Self) -> Self {
         ParameterSets {
             vps: self.vps || others.vps,
@@ -91,6 +92,7 @@ fn byte_at(unit: &[u8], place: usize) -> u8 {
 }
 
 /// The kind of an H.264 unit (Recommendation H.264, 7.3.1, 7.3.3, table 7-1).
+#[inline]
 fn h264_kind(unit: &[u8]) -> UnitKind {
     let header = byte_at(unit, 0);
     match header & 0x1f {
@@ -109,6 +111,7 @@ fn h264_kind(unit: &[u8]) -> UnitKind {
 
 /// The kind of an H.265 unit; no header has a temporal layer of 0 (Recommendation H.265, 7.3.1.2,
 /// 7.3.2.2, 7.3.6.1, table 7-1).
+#[inline]
 fn h265_kind(unit: &[u8]) -> UnitKind {
     let (header, second, third) = (byte_at(unit, 0), byte_at(unit, 1), byte_at(unit, 2));
     if header & 1 != 0 || second >> 3 != 0 || second & 7 == 0 {
@@ -132,6 +135,7 @@ fn h265_kind(unit: &[u8]) -> UnitKind {
 
 /// The kind of an H.266 unit; no header has a temporal layer of 0 (Recommendation H.266, 7.3.1.2,
 /// 7.3.2.8, 7.3.7, table 5).
+#[inline]
 fn h266_kind(unit: &[u8]) -> UnitKind {
     let (header, second, third) = (byte_at(unit, 0), byte_at(unit, 1), byte_at(unit, 2));
     if header & 0x3f != 0 || second & 7 == 0 {
@@ -155,6 +159,7 @@ fn h266_kind(unit: &[u8]) -> UnitKind {
 }
 
 /// The kind of a unit, by what is told of its codec; where nothing is told any other.
+#[inline]
 fn content_kind(extra: CodecExtra, unit: &[u8]) -> UnitKind {
     match extra {
         CodecExtra::None => UnitKind::Other,
@@ -164,10 +169,24 @@ fn content_kind(extra: CodecExtra, unit: &[u8]) -> UnitKind {
     }
 }
 
+/// What stands behind the first start code of a text. That of four bytes, with which texts are written,
+/// is looked for at the front first, which takes no search.
+#[inline]
+fn behind_first_code(text: &[u8]) -> Option<&[u8]> {
+    if text.len() < 4 {
+        return behind_code(text);
+    }
+    if u32::from_be_bytes([text[0], text[1], text[2], text[3]]) == 1 {
+        return Some(&text[4..]);
+    }
+    behind_code(text)
+}
+
 /// What stands of a text from its first unit on, and behind what precedes the next one.
+#[inline]
 fn first_unit(is_avc: bool, text: &[u8]) -> Option<(&[u8], &[u8])> {
     if !is_avc {
-        let unit = behind_code(text)?;
+        let unit = behind_first_code(text)?;
         return Some((unit, unit));
     }
     if text.len() < 4 {
@@ -189,6 +208,7 @@ impl Content {
     };
 
     /// The same with a unit more.
+    #[inline]
     fn with(mut self, kind: UnitKind) -> Self {
         if self.first.is_none() {
             self.first = Some(kind);
@@ -218,6 +238,7 @@ impl Content {
 }
 
 /// What the units of a text tell, up to the first slice; behind 64 units none is looked at.
+#[inline]
 pub(crate) fn content_of(is_avc: bool, extra: CodecExtra, text: &[u8]) -> Content {
     let mut content = Content::NONE;
     let mut rest = text;

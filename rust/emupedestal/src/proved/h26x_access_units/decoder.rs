@@ -21,6 +21,7 @@ pub(crate) struct DecoderState {
 }
 
 /// Whether a decoder needs no other parameter sets.
+#[inline]
 fn are_enough(extra: CodecExtra, sets: ParameterSets) -> bool {
     match extra {
         CodecExtra::None => false,
@@ -30,6 +31,7 @@ fn are_enough(extra: CodecExtra, sets: ParameterSets) -> bool {
 }
 
 /// Whether the first slice is the first of a keyframe.
+#[inline]
 fn is_first_key(content: Content) -> bool {
     match content.slice {
         Some(slice) => slice.is_first && slice.is_key,
@@ -39,6 +41,7 @@ fn is_first_key(content: Content) -> bool {
 
 impl DecoderState {
     /// Before any access unit.
+    #[inline]
     pub(crate) fn fresh() -> Self {
         DecoderState {
             is_clean: false,
@@ -50,6 +53,7 @@ impl DecoderState {
 
     /// Whether a unit stands at the front of its access unit, by its kind, and whether that is the
     /// first.
+    #[inline]
     pub(crate) fn is_front(self, extra: CodecExtra, first: Option<UnitKind>) -> bool {
         match first {
             Some(UnitKind::Delimiter) => true,
@@ -64,6 +68,7 @@ impl DecoderState {
 
     /// Whether no picture refers to that of an access unit before which its sequence parameter set
     /// came.
+    #[inline]
     fn is_disposable_at(highest_layer: u8, content: Content) -> bool {
         match content.slice {
             Some(slice) => {
@@ -76,6 +81,7 @@ impl DecoderState {
     }
 
     /// The sets that came in order before an access unit.
+    #[inline]
     fn sets_before(self, numbers: AccessUnitNumbers) -> ParameterSets {
         if numbers.follows {
             self.sets
@@ -85,6 +91,7 @@ impl DecoderState {
     }
 
     /// Those that came in order, with its own.
+    #[inline]
     fn sets_after(
         self,
         is_unbroken: bool,
@@ -100,6 +107,7 @@ impl DecoderState {
 
     /// The highest temporal layer that sequence parameter sets tell: its own, or those of the last one
     /// that had some, where no number is missing between access units since.
+    #[inline]
     fn layer_after(self, numbers: AccessUnitNumbers, content: Content) -> u8 {
         if content.highest_layer != 0 {
             content.highest_layer
@@ -111,11 +119,13 @@ impl DecoderState {
     }
 
     /// Whether no picture refers to that of an access unit.
+    #[inline]
     pub(crate) fn is_disposable(self, numbers: AccessUnitNumbers, content: Content) -> bool {
         DecoderState::is_disposable_at(self.layer_after(numbers, content), content)
     }
 
     /// Whether a decoder can begin with an access unit.
+    #[inline]
     fn can_begin(
         self,
         has_sets: bool,
@@ -131,11 +141,13 @@ impl DecoderState {
     }
 
     /// Whether a decoder that could go on before an access unit can go on behind it.
+    #[inline]
     fn can_go_on(self, is_unbroken: bool, numbers: AccessUnitNumbers, content: Content) -> bool {
         self.is_clean && numbers.follows && (is_unbroken || self.is_disposable(numbers, content))
     }
 
     /// Whether an access unit is told to be whole, which is unbroken from its first packet on or isn't.
+    #[inline]
     pub(crate) fn tells_whole(
         self,
         is_unbroken: bool,
@@ -149,11 +161,13 @@ impl DecoderState {
     }
 
     /// Whether a decoder can show an access unit behind which it is so.
+    #[inline]
     pub(crate) fn shows(self, is_unbroken: bool) -> bool {
         is_unbroken && self.is_clean
     }
 
     /// Once an access unit is given out, which is unbroken from its first packet on or isn't.
+    #[inline]
     pub(crate) fn after(
         self,
         has_sets: bool,

@@ -64,6 +64,7 @@ impl core::fmt::Debug for ReceivedAccessUnit {
 
 impl ReceivedAccessUnit {
     /// An access unit with its numbers, by what is known of a decoder, and then with it.
+    #[inline]
     pub(crate) fn of(
         decoder: &mut DecoderState,
         has_sets: bool,
