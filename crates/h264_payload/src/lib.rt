@@ -27,5 +27,5 @@ pub use codec::H264;
 pub use depacketizer::H264Depacketizer;
 pub use detect::{detect_h264_keyframe, detect_h264_nalu};
 pub use h26x_core::ANNEXB_NALUSTART_CODE;
-pub use h26x_packetizer::{BufferPackets, PacketBuffer};
+pub use h26x_packetizer::{BufferMemory, BufferPackets, PacketBuffer};
 pub use packetizer::H264Packetizer;

@@ -32,7 +32,7 @@ pub use codec::H265;
 pub use depacketizer::H265Depacketizer;
 pub use detect::detect_h265_keyframe;
 pub use h26x_core::ANNEXB_NALUSTART_CODE;
-pub use h26x_packetizer::{BufferPackets, PacketBuffer};
+pub use h26x_packetizer::{BufferMemory, BufferPackets, PacketBuffer};
 pub use h265_packets::{
     H265AggregationPacket, H265AggregationUnit, H265AggregationUnitFirst,
     H265FragmentationUnitPacket, H265PACIPacket, H265Payload, H265SingleNALUnitPacket,

@@ -27,5 +27,5 @@ pub use codec::H266;
 pub use depacketizer::H266Depacketizer;
 pub use detect::detect_h266_keyframe;
 pub use h26x_core::ANNEXB_NALUSTART_CODE;
-pub use h26x_packetizer::{BufferPackets, PacketBuffer};
+pub use h26x_packetizer::{BufferMemory, BufferPackets, PacketBuffer};
 pub use packetizer::H266Packetizer;

@@ -2,7 +2,7 @@
 
 ghost use Rattle.std.specs.Prelude.{◌≡◌, ◌≤◌, [], true, false, Err, IfOk, OnOk, OnErr, IsOk};
 ghost use Rattle.h26x_model.specs.Send.PacketizerState.{next_packets, after_payload, payload_has_no_effect, one_unit_items, one_unit_packets, after_one_unit};
-ghost use Rattle.h26x_packetizer.specs.Buffer.{with_packets};
+ghost use Rattle.h26x_packetizer.specs.Buffer.{with_packets, with_memory, IsMemoryWith};
 ghost use Rattle.h26x_packetizer.specs.Placement.{IsPlacement, IsSizeOf, is_placed};
 ghost use Rattle.h26x_codec.specs.Codec.{codec_format, fresh_packetizer_state};
 ghost use Rattle.h26x_codec.specs.AnyPacketizer.{any_packetizer_state, any_packetizer_codec, any_packetizer_with_donl, any_packetizer_with_max_packet_size, IsBehindPlaced};
@@ -97,12 +97,14 @@ impl AnyPacketizer {
         into: &mut PacketBuffer,
     ) -> Result<(), PacketError>
         ensures packets { OnOk result (into.new ≡ with_packets into.old
-            (next_packets (any_packetizer_state self.old) mtu payload.now)) }
+            (next_packets (any_packetizer_state self.old) mtu payload.now) into.new.memory) }
+        ensures bounded { OnOk result (IsMemoryWith into.old
+            (next_packets (any_packetizer_state self.old) mtu payload.now) into.new.memory) }
         ensures after { OnOk result (any_packetizer_state self.new
             ≡ after_payload (any_packetizer_state self.old) mtu payload.now) }
         ensures codec { any_packetizer_codec self.new ≡ any_packetizer_codec self.old }
         ensures kept { OnErr result (self.new ≡ self.old) }
-        ensures kept_packets { OnErr result (into.new ≡ into.old) }
+        ensures kept_packets { OnErr result (into.new ≡ with_memory into.old into.new.memory) }
         ensures memory { OnErr result (result ≡ Err PacketError.OutOfMemory) }
         ensures free { payload_has_no_effect (any_packetizer_state self.old) mtu payload.now
             ≡ true → IsOk result }
@@ -122,12 +124,14 @@ impl AnyPacketizer {
         into: &mut PacketBuffer,
     ) -> Result<(), PacketError>
         ensures packets { OnOk result (into.new ≡ with_packets into.old
-            (one_unit_packets (any_packetizer_state self.old) mtu unit.now)) }
+            (one_unit_packets (any_packetizer_state self.old) mtu unit.now) into.new.memory) }
+        ensures bounded { OnOk result (IsMemoryWith into.old
+            (one_unit_packets (any_packetizer_state self.old) mtu unit.now) into.new.memory) }
         ensures after { OnOk result (any_packetizer_state self.new
             ≡ after_one_unit (any_packetizer_state self.old) mtu unit.now) }
         ensures codec { any_packetizer_codec self.new ≡ any_packetizer_codec self.old }
         ensures kept { OnErr result (self.new ≡ self.old) }
-        ensures kept_packets { OnErr result (into.new ≡ into.old) }
+        ensures kept_packets { OnErr result (into.new ≡ with_memory into.old into.new.memory) }
         ensures memory { OnErr result (result ≡ Err PacketError.OutOfMemory) }
 
         // Nothing is sent without memory.

@@ -20,4 +20,4 @@ pub use any_depacketizer::AnyDepacketizer;
 pub use any_packetizer::AnyPacketizer;
 pub use any_payload_depacketizer::AnyPayloadDepacketizer;
 pub use codec::Codec;
-pub use h26x_packetizer::{BufferPackets, PacketBuffer};
+pub use h26x_packetizer::{BufferMemory, BufferPackets, PacketBuffer};

@@ -1,10 +1,12 @@
 -- Packets behind each other in one buffer, as one more comes or the last ones go.
-use Rattle.std.proofs.Common.{◌≡◌, ℕ, zero, suc, ◌+◌, ◌-◌, ◌<◌, ◌≤◌, List, [], ◌∷◌, ◌++◌, length, length-append, get_or, map, replicate, take, drop, refl, sym, ap, ◌∙◌, arith, append_assoc}
+use Rattle.std.proofs.Common.{◌≡◌, ℕ, zero, suc, ◌+◌, ◌-◌, ◌*◌, ◌<◌, ◌≤◌, max, List, [], ◌∷◌, ◌++◌, length, length-append, get_or, take, drop, refl, sym, ap, ◌∙◌, arith, append_assoc}
 use Rattle.std.specs.List.{between}
-use Rattle.std.proofs.lemmas.List.{length-drop, map-append, take-take, length-take-le, take-append-drop, take-append-le, drop-append-le, drop_at, take_all}
+use Rattle.std.proofs.lemmas.List.{length-drop, take-take, length-take-le, take-append-drop, take-append-le, drop-append-le, drop_at, take_all}
+use Rattle.std.proofs.lemmas.List.Sums.{sum_by-cons}
 use borrow.Rule.Slice.PartMut.{put_mid}
 use Rattle.std.proofs.lemmas.Slice.{drop-put_mid, take-put_mid, take-put_mid_below, between_is}
-use Rattle.h26x_packetizer.specs.Buffer.{packets_from, headrooms_from, last_end, packet_ends, ArePacketEnds, IsBuffer, HoldPackets, HoldHeadrooms, PacketBufferView, with_packets, headed, headed_at}
+use Rattle.h26x_packetizer.specs.Buffer.{packets_from, headrooms_from, last_end, packet_ends, ArePacketEnds, IsBuffer, HoldPackets, HoldHeadrooms, packets_len, headed, headed_at, IsMemoryFor}
+use Rattle.h26x_packetizer.specs.declared.buffer.memory.BufferMemory.{BufferMemory}
 
 -- ends are in order
 pub start_le_last : (h s : ℕ) (ends : List ℕ) → ArePacketEnds h s ends → s ≤ last_end s ends
@@ -147,15 +149,6 @@ packet_within h s [] i are lt = absurd (omega arith)
 packet_within h s (e ∷ ends) zero (here, are) lt = (here, start_le_last h e ends are)
 packet_within h s (e ∷ ends) (suc i) (here, are) lt = packet_within h e ends i are (omega arith)
 
--- packets more come behind those that came
-pub with_more : (b : PacketBufferView) (packets : List (List ℕ)) (packet : List ℕ) → with_packets (with_packets b packets) (packet ∷ []) ≡ with_packets b (packets ++ packet ∷ [])
-with_more b packets packet =
-    let f : List ℕ → List ℕ = λ p. replicate b.headroom 0 in
-    let rooms : (b.headrooms ++ map f packets) ++ map f (packet ∷ []) ≡ b.headrooms ++ map f (packets ++ packet ∷ []) =
-    append_assoc b.headrooms (map f packets) (map f (packet ∷ [])) ∙ ap (λ (l : List (List ℕ)). b.headrooms ++ l) (sym (map-append f packets (packet ∷ []))) in
-    ap (λ (l : List (List ℕ)). record b { packets = l; headrooms = (b.headrooms ++ map f packets) ++ map f (packet ∷ []) }) (append_assoc b.packets packets (packet ∷ []))
-    ∙ ap (λ (l : List (List ℕ)). record b { packets = b.packets ++ (packets ++ packet ∷ []); headrooms = l }) rooms
-
 -- what is written below a place leaves the packets that begin behind it
 packets_behind : (h s : ℕ) (bytes ends ys : List ℕ) (a k : ℕ) → ArePacketEnds h s ends → a + k ≤ s → length ys ≡ k → a ≤ length bytes → packets_from h s (put_mid a k bytes ys) ends ≡ packets_from h s bytes ends
 packets_behind h s bytes [] ys a k are le long within = refl
@@ -244,3 +237,31 @@ buffer_holds h bytes ends is =
 
 pub buffer_holds_rooms : (h : ℕ) (bytes ends : List ℕ) → IsBuffer h bytes ends → HoldHeadrooms h (packets_from h 0 bytes ends) (headrooms_from h 0 bytes ends) bytes
 buffer_holds_rooms h bytes ends is = ap (headrooms_from h 0 bytes) (sym (buffer_ends h bytes ends is))
+
+-- how many bytes packets of a buffer take
+pub packets_len_from : (h s : ℕ) (bytes ends : List ℕ) → ArePacketEnds h s ends → last_end s ends ≤ length bytes → s + packets_len h (packets_from h s bytes ends) ≡ last_end s ends
+packets_len_from h s bytes [] are le = omega arith
+packets_len_from h s bytes (e ∷ ends) (here, are) le =
+    let a = start_le_last h e ends are in
+    let long = between_long (s + h) e bytes (omega (arith, a, le)) in
+    let more = packets_len_from h e bytes ends are le in
+    let cons = sum_by-cons (λ (packet : List ℕ). h + length packet) (between (s + h) e bytes) (packets_from h e bytes ends) in
+    omega (arith, long, here, more, cons)
+
+pub buffer_len : (h : ℕ) (bytes ends : List ℕ) → IsBuffer h bytes ends → packets_len h (packets_from h 0 bytes ends) ≡ length bytes
+buffer_len h bytes ends is = let all = is.to_the_end in let len = packets_len_from h 0 bytes ends is.in_order (omega (arith, all)) in omega (arith, all, len)
+
+-- memory is for twice as much as stands in a buffer at most, by its bytes and ends
+pub memory_for : (h : ℕ) (bytes ends : List ℕ) (old new : BufferMemory) → IsBuffer h bytes ends → new.bytes ≤ max old.bytes (2 * length bytes) → new.ends ≤ max old.ends (2 * (length ends + 8)) →
+    IsMemoryFor h (packets_from h 0 bytes ends) old new
+memory_for h bytes ends old new is few_bytes few_ends =
+    let len = buffer_len h bytes ends is in
+    let count = packets_count h 0 bytes ends in
+    record { bytes = rw len few_bytes; ends = rw count few_ends }
+
+pub memory_of : (h : ℕ) (bytes ends : List ℕ) (old new : BufferMemory) → IsBuffer h bytes ends → IsMemoryFor h (packets_from h 0 bytes ends) old new →
+    (new.bytes ≤ max old.bytes (2 * length bytes)) × (new.ends ≤ max old.ends (2 * (length ends + 8)))
+memory_of h bytes ends old new is few =
+    let len = buffer_len h bytes ends is in
+    let count = packets_count h 0 bytes ends in
+    (rw len at few.bytes, rw count at few.ends)

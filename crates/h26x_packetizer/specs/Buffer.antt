@@ -1,12 +1,15 @@
 -- Packets behind each other in one buffer.
-use Rattle.std.specs.Prelude.{◌≡◌, ℕ, zero, suc, ◌+◌, ◌-◌, ◌≤◌, List, [], ◌∷◌, ◌++◌, length, map, replicate, take, drop}
-use Rattle.std.specs.List.{between}
+use Rattle.std.specs.Prelude.{◌≡◌, ℕ, zero, suc, ◌+◌, ◌-◌, ◌*◌, ◌≤◌, max, List, [], ◌∷◌, ◌++◌, length, map, replicate, take, drop}
+use Rattle.std.specs.List.{between, sum_by}
+use Rattle.h26x_packetizer.specs.declared.buffer.memory.BufferMemory.{BufferMemory}
 
--- what a buffer holds: packets, what stands in the headroom before each, and how many bytes that is
+-- what a buffer holds: packets, what stands in the headroom before each, and how many bytes that is;
+-- and for how much it has memory
 pub record PacketBufferView : Type 0 where
   pub packets : List (List ℕ)
   pub headrooms : List (List ℕ)
   pub headroom : ℕ
+  pub memory : BufferMemory
 
 -- the packets that end at these places of bytes, each behind its headroom, from this place on
 abbrev pub packets_from : ℕ → ℕ → List ℕ → List ℕ → List (List ℕ)
@@ -20,13 +23,24 @@ headrooms_from headroom start bytes [] = []
 headrooms_from headroom start bytes (end ∷ ends) = between start (start + headroom) bytes
     ∷ headrooms_from headroom end bytes ends
 
--- the packets that end at these places of bytes, and their headrooms
-abbrev pub buffer_of : ℕ → List ℕ → List ℕ → PacketBufferView
-buffer_of headroom bytes ends = record {
+-- the packets that end at these places of bytes, and their headrooms, in so much memory
+abbrev pub buffer_of : ℕ → List ℕ → List ℕ → BufferMemory → PacketBufferView
+buffer_of headroom bytes ends memory = record {
   packets = packets_from headroom 0 bytes ends;
   headrooms = headrooms_from headroom 0 bytes ends;
   headroom = headroom;
+  memory = memory;
 }
+
+-- how many bytes packets take, each behind its headroom
+abbrev pub packets_len : ℕ → List (List ℕ) → ℕ
+packets_len headroom packets = sum_by (λ packet. headroom + length packet) packets
+
+-- memory that took in packets, each behind its headroom: for twice as much at most, with eight packets
+-- more, or for as much as before
+pub record IsMemoryFor (headroom : ℕ) (packets : List (List ℕ)) (old new : BufferMemory) : Type 0 where
+  pub bytes : new.bytes ≤ max old.bytes (2 * packets_len headroom packets)
+  pub ends : new.ends ≤ max old.ends (2 * (length packets + 8))
 
 -- the last of these ends
 abbrev pub last_end : ℕ → List ℕ → ℕ
@@ -72,35 +86,52 @@ first_packets count buffer = record buffer {
   headrooms = take count buffer.headrooms;
 }
 
--- a buffer, of which so many packets were there before
-abbrev pub appended_view : PacketBufferView → ℕ → AppendedView
-appended_view buffer first = record {
-  before = first_packets first buffer;
+-- a buffer, of which so many packets and so much memory were there before
+abbrev pub appended_view : PacketBufferView → ℕ → BufferMemory → AppendedView
+appended_view buffer first memory = record {
+  before = record (first_packets first buffer) { memory = memory };
   after = drop first buffer.packets;
 }
 
 -- nothing was there before
 abbrev pub no_buffer : PacketBufferView
-no_buffer = record { packets = []; headrooms = []; headroom = 0 }
+no_buffer = record {
+  packets = [];
+  headrooms = [];
+  headroom = 0;
+  memory = record { bytes = 0; ends = 0 };
+}
 
 -- headrooms of zeros, one for each of these packets
 abbrev pub empty_headrooms : ℕ → List (List ℕ) → List (List ℕ)
 empty_headrooms headroom packets = map (λ packet. replicate headroom 0) packets
 
--- a buffer with these packets behind its own, each behind a headroom of zeros
-abbrev pub with_packets : PacketBufferView → List (List ℕ) → PacketBufferView
-with_packets buffer packets = record buffer {
+-- a buffer with these packets behind its own, each behind a headroom of zeros, in so much memory
+abbrev pub with_packets : PacketBufferView → List (List ℕ) → BufferMemory → PacketBufferView
+with_packets buffer packets memory = record buffer {
   packets = buffer.packets ++ packets;
   headrooms = buffer.headrooms ++ empty_headrooms buffer.headroom packets;
+  memory = memory;
 }
 
--- so many packets of a buffer were there before: each packet has its headroom, and those of the others
--- are of zeros
-pub record IsAppending (buffer : PacketBufferView) (first : ℕ) : Type 0 where
+-- a buffer as it was but for its memory
+abbrev pub with_memory : PacketBufferView → BufferMemory → PacketBufferView
+with_memory buffer memory = record buffer { memory = memory }
+
+-- memory of a buffer that took in these packets behind its own
+abbrev pub IsMemoryWith : PacketBufferView → List (List ℕ) → BufferMemory → Type 0
+IsMemoryWith buffer packets memory = IsMemoryFor buffer.headroom (buffer.packets ++ packets)
+    buffer.memory memory
+
+-- so many packets of a buffer were there before, and so much memory: each packet has its headroom, and
+-- those of the others are of zeros; where there are no others it has hardly more memory
+pub record IsAppending (buffer : PacketBufferView) (first : ℕ) (old : BufferMemory) : Type 0 where
   pub packets : first ≤ length buffer.packets
   pub headrooms : length buffer.headrooms ≡ length buffer.packets
   pub fresh : drop first buffer.headrooms
       ≡ empty_headrooms buffer.headroom (drop first buffer.packets)
+  pub memory : length buffer.packets ≤ first →
+      IsMemoryFor buffer.headroom buffer.packets old buffer.memory
 
 -- a headroom whose last bytes are a header
 abbrev pub headed : List ℕ → List ℕ → List ℕ
@@ -114,4 +145,5 @@ headed_at (suc place) header (room ∷ rooms) = room ∷ headed_at place header 
 
 -- a buffer has its own packets and headroom still, and perhaps packets behind them
 abbrev pub IsAppended : PacketBufferView → PacketBufferView → Type 0
-IsAppended old new = (packets : List (List ℕ)) × (new ≡ with_packets old packets)
+IsAppended old new = (packets : List (List ℕ)) × (new ≡ with_packets old packets new.memory)
+    × IsMemoryWith old packets new.memory

@@ -1,19 +1,24 @@
 //! Packets behind each other in one buffer.
 
-ghost use Rattle.std.specs.Prelude.{◌≡◌, ◌≤◌, ◌<◌, ◌+◌, ◌-◌, ◌++◌, nat_eq, replicate, vec_len, vec_capacity, ◌∷◌, [], take, length, get_or, OnOk, OnErr};
+ghost use Rattle.std.specs.Prelude.{◌≡◌, ◌≤◌, ◌<◌, ◌+◌, ◌-◌, ◌++◌, ◌*◌, max, nat_eq, replicate, vec_len, vec_capacity, ◌∷◌, [], take, length, get_or, OnOk, OnErr, IsOk, IsTrue, ◌↔◌};
 ghost use Rattle.std.specs.List.{between};
-ghost use Rattle.h26x_packetizer.specs.Buffer.{IsBuffer, HoldPackets, HoldHeadrooms, packet_ends, last_end, packets_from, headrooms_from, first_packets, with_packets, headed_at};
+ghost use Rattle.h26x_packetizer.specs.Buffer.{IsBuffer, HoldPackets, HoldHeadrooms, packet_ends, last_end, packets_from, headrooms_from, first_packets, with_packets, with_memory, IsMemoryFor, IsMemoryWith, headed_at};
 ghost use Rattle.h26x_packetizer.specs.Sending.{packet_bytes, contents};
 
 mod cases;
 mod loan;
+pub mod memory;
 
+use self::memory::{BufferMemory, is_at_most, make_room};
 use crate::body::{Body, put_packet};
 use crate::buffer_packets::BufferPackets;
 use crate::sink::PacketSink;
 use std::alloc::{AllocError, Global};
 use std::marker::Model;
 use std::mem;
+
+/// How many packets' ends a buffer has room for at first.
+const FIRST_ENDS: usize = 8;
 
 /// Packets behind each other in one buffer, and before each so many bytes that are free for the
 /// headers of the layers below (as of RTP, RFC 3550, 5.1). A buffer that is cleared keeps its
@@ -26,11 +31,15 @@ pub struct PacketBuffer {
 }
 
 impl Model for PacketBuffer {
+    ghost use Rattle.std.specs.Prelude.{vec_capacity};
     ghost use Rattle.h26x_packetizer.specs.Buffer.{PacketBufferView, IsBuffer, buffer_of};
 
     ghost Value = { PacketBufferView };
 
-    ghost view = { λ a. buffer_of a.headroom a.bytes.items a.ends.items };
+    ghost view = { λ a. buffer_of a.headroom a.bytes.items a.ends.items record {
+      bytes = vec_capacity a.bytes;
+      ends = vec_capacity a.ends;
+    } };
 
     ghost invariant = { λ a. IsBuffer a.headroom a.bytes.items a.ends.items };
 }
@@ -88,6 +97,29 @@ impl PacketBuffer {
         ensures headrooms { result ≡ length self.now.headrooms }
     {
         self.ends.len()
+    }
+
+    /// For how much it has memory.
+    pub fn memory(&self) -> BufferMemory
+        ensures { result ≡ self.now.memory }
+    {
+        BufferMemory {
+            bytes: self.bytes.capacity(),
+            ends: self.ends.capacity(),
+        }
+    }
+
+    /// Whether it has no more memory than what stands in it may take, where it had so much before.
+    fn is_within(&self, before: BufferMemory) -> bool
+        ensures { IsTrue result ↔ IsMemoryFor self.now.headroom self.now.packets before
+            self.now.memory }
+    {
+        is_at_most(self.bytes.capacity(), before.bytes, self.bytes.len())
+            && is_at_most(
+                self.ends.capacity(),
+                before.ends,
+                self.ends.len() + FIRST_ENDS,
+            )
     }
 
     /// The bytes that are free before each packet.
@@ -173,64 +205,78 @@ impl PacketBuffer {
 
     /// Appends a packet of these parts, one behind the other, behind a headroom of zeros.
     #[inline(always)]
-    pub(crate) fn push_parts(
-        &mut self,
-        header: &[u8],
-        donl: &[u8],
-        body: Body<'_>,
-    ) -> Result<(), AllocError>
-        ensures pushed { OnOk result (self.new
-            ≡ with_packets self.old (packet_bytes header.now donl.now body.entry ∷ [])) }
-        ensures kept { OnErr result (self.new ≡ self.old) }
+    fn push_parts(&mut self, header: &[u8], donl: &[u8], body: Body<'_>) -> Result<(), AllocError>
+        ensures pushed { OnOk result (self.new ≡ with_packets self.old
+            (packet_bytes header.now donl.now body.entry ∷ []) self.new.memory) }
+        ensures kept { OnErr result (self.new ≡ with_memory self.old self.new.memory) }
+        ensures bounded { OnErr result (IsMemoryFor self.old.headroom self.old.packets
+            self.old.memory self.new.memory) }
     {
         let len = header
             .len()
             .saturating_add(donl.len())
             .saturating_add(body.len());
-        self.ends.reserve(1)?;
-        self.bytes.reserve(self.headroom.saturating_add(len))?;
+        make_room(&mut self.ends, 1, FIRST_ENDS)?;
+        make_room(&mut self.bytes, self.headroom.saturating_add(len), 0)?;
         put_packet(self.headroom, header, donl, body, &mut self.bytes);
         self.ends.push(self.bytes.len()).unwrap();
         Ok(())
     }
 
     /// Appends a packet behind its headroom, which is of zeros. Only want of memory refuses it, and
-    /// leaves everything.
+    /// leaves the packets. Memory grows to twice what it was, and only where there is none left.
     pub fn push(&mut self, packet: &[u8]) -> Result<(), AllocError>
-        ensures pushed { OnOk result (self.new ≡ with_packets self.old (packet.now ∷ [])) }
-        ensures kept { OnErr result (self.new ≡ self.old) }
+        ensures pushed { OnOk result (self.new
+            ≡ with_packets self.old (packet.now ∷ []) self.new.memory) }
+        ensures kept { OnErr result (self.new ≡ with_memory self.old self.new.memory) }
+        ensures bounded { OnOk result (IsMemoryWith self.old (packet.now ∷ []) self.new.memory) }
     {
-        self.push_parts(&[], &[], Body::Data(packet))
+        let mut made = Appending::from_buffer(*self.bytes.allocator(), self);
+        match made.push_packet(packet) {
+            Ok(()) => made.finish(self),
+            Err(e) => {
+                made.give_up(self);
+                Err(e)
+            }
+        }
     }
 
     /// Appends packets, each behind its headroom of zeros: all of them, or none where memory lacks.
     pub fn push_all(&mut self, packets: &[Vec<u8>]) -> Result<(), AllocError>
-        ensures pushed { OnOk result (self.new ≡ with_packets self.old (contents packets.now)) }
-        ensures kept { OnErr result (self.new ≡ self.old) }
+        ensures pushed { OnOk result (self.new
+            ≡ with_packets self.old (contents packets.now) self.new.memory) }
+        ensures kept { OnErr result (self.new ≡ with_memory self.old self.new.memory) }
+        ensures bounded { OnOk result (IsMemoryWith self.old (contents packets.now)
+            self.new.memory) }
     {
-        let before = self.len();
-        for packet in packets {
-            if let Err(e) = self.push(packet) {
-                self.truncate(before);
-                return Err(e);
+        let mut made = Appending::from_buffer(*self.bytes.allocator(), self);
+        match made.push_packets(packets) {
+            Ok(()) => made.finish(self),
+            Err(e) => {
+                made.give_up(self);
+                Err(e)
             }
         }
-        Ok(())
     }
 
     /// Reserves room for so many packets more, but none for their bytes.
     pub fn reserve(&mut self, count: usize) -> Result<(), AllocError>
-        ensures { self.new ≡ self.old }
+        ensures same { self.new ≡ with_memory self.old
+            (record self.old.memory { ends = self.new.memory.ends }) }
+        ensures room { OnOk result (length self.old.packets + count ≤ self.new.memory.ends) }
+        ensures bounded { self.new.memory.ends ≤ max self.old.memory.ends
+            (2 * (length self.old.packets + max count 8)) }
     {
-        self.ends.reserve(count)
+        make_room(&mut self.ends, count, FIRST_ENDS)
     }
 }
 
-/// A buffer to which packets are appended, and how many it had before.
+/// A buffer to which packets are appended, and how many and how much memory it had before.
 #[derive(Drop)]
 pub(crate) struct Appending {
     buffer: PacketBuffer,
     first: usize,
+    memory: BufferMemory,
 }
 
 impl Model for Appending {
@@ -238,9 +284,9 @@ impl Model for Appending {
 
     ghost Value = { AppendedView };
 
-    ghost view = { λ a. appended_view a.buffer a.first };
+    ghost view = { λ a. appended_view a.buffer a.first a.memory };
 
-    ghost invariant = { λ a. IsAppending a.buffer a.first };
+    ghost invariant = { λ a. IsAppending a.buffer a.first a.memory };
 }
 
 impl Appending {
@@ -252,23 +298,58 @@ impl Appending {
         let headroom = into.headroom();
         let buffer = mem::replace(into, PacketBuffer::new(alloc, headroom));
         let first = buffer.len();
-        Appending { buffer, first }
+        let memory = buffer.memory();
+        Appending {
+            buffer,
+            first,
+            memory,
+        }
     }
 
-    /// The buffer with what was appended.
-    pub(crate) fn finish(self) -> PacketBuffer
-        ensures { result ≡ with_packets self.before self.after }
+    /// Appends a packet.
+    fn push_packet(&mut self, packet: &[u8]) -> Result<(), AllocError>
+        ensures pushed { OnOk result (self.new.after ≡ self.old.after ++ packet.now ∷ []) }
+        ensures before { self.new.before ≡ self.old.before }
     {
-        self.buffer
+        self.buffer.push_parts(&[], &[], Body::Data(packet))
     }
 
-    /// The buffer as it was.
-    pub(crate) fn give_up(self) -> PacketBuffer
-        ensures { result ≡ self.before }
+    /// Appends packets.
+    fn push_packets(&mut self, packets: &[Vec<u8>]) -> Result<(), AllocError>
+        ensures pushed { OnOk result (self.new.after ≡ self.old.after ++ contents packets.now) }
+        ensures before { self.new.before ≡ self.old.before }
+    {
+        for packet in packets {
+            self.push_packet(packet)?;
+        }
+        Ok(())
+    }
+
+    /// Puts the buffer in its place, with what was appended; as it was where it has more memory than it
+    /// may, which is want of memory.
+    pub(crate) fn finish(self, into: &mut PacketBuffer) -> Result<(), AllocError>
+        ensures appended { OnOk result (into.new
+            ≡ with_packets self.before self.after into.new.memory) }
+        ensures bounded { OnOk result (IsMemoryWith self.before self.after into.new.memory) }
+        ensures kept { OnErr result (into.new ≡ with_memory self.before into.new.memory) }
+        ensures free { self.after ≡ [] → IsOk result }
+    {
+        if self.buffer.is_within(self.memory) {
+            *into = self.buffer;
+            Ok(())
+        } else {
+            self.give_up(into);
+            Err(AllocError)
+        }
+    }
+
+    /// Puts the buffer in its place, as it was.
+    pub(crate) fn give_up(self, into: &mut PacketBuffer)
+        ensures { into.new ≡ with_memory self.before into.new.memory }
     {
         let mut buffer = self.buffer;
         buffer.truncate(self.first);
-        buffer
+        *into = buffer;
     }
 }
 
@@ -282,8 +363,9 @@ impl<'a> PacketSink<'a> for Appending {
         self.buffer.push_parts(header, donl, body)
     }
 
+    /// None: the buffer grows with its packets, and so has no memory for those that don't come.
     #[inline(always)]
-    fn reserve(&mut self, count: usize) -> Result<(), AllocError> {
-        self.buffer.reserve(count)
+    fn reserve(&mut self, _count: usize) -> Result<(), AllocError> {
+        Ok(())
     }
 }

@@ -4,7 +4,7 @@ ghost use Rattle.std.specs.Prelude.{◌≡◌, ◌++◌, [], OnOk, OnErr, IfOk, 
 ghost use Rattle.h26x_model.specs.Send.Limit.{AreWithinLimit};
 ghost use Rattle.h26x_model.specs.Send.PacketizerState.{one_unit_items};
 ghost use Rattle.h26x_packetizer.specs.Sending.{contents};
-ghost use Rattle.h26x_packetizer.specs.Buffer.{with_packets};
+ghost use Rattle.h26x_packetizer.specs.Buffer.{with_packets, with_memory, IsMemoryWith};
 ghost use Rattle.h26x_packetizer.specs.Placement.{IsPlacement, if_placed};
 ghost use Rattle.h26x_packetizer.specs.PacketizerView.{IsPacketizerView, packetizer_of, limit_of, unit_packets, view_after_unit, view_with_update};
 
@@ -103,14 +103,16 @@ impl<C: PayloadFormat> PayloadPacketizer<C> {
         unit: &[u8],
         into: &mut PacketBuffer,
     ) -> Result<(), PacketError>
-        ensures packets { OnOk result (into.new
-            ≡ with_packets into.old (unit_packets C.format self.old mtu unit.now)) }
+        ensures packets { OnOk result (into.new ≡ with_packets into.old
+            (unit_packets C.format self.old mtu unit.now) into.new.memory) }
         ensures after { OnOk result (self.new ≡ view_after_unit C.format self.old mtu unit.now) }
         ensures within { AreWithinLimit (limit_of C.format self.old mtu)
             (unit_packets C.format self.old mtu unit.now) }
+        ensures bounded { OnOk result (IsMemoryWith into.old
+            (unit_packets C.format self.old mtu unit.now) into.new.memory) }
 
         ensures kept { OnErr result (self.new ≡ self.old) }
-        ensures kept_packets { OnErr result (into.new ≡ into.old) }
+        ensures kept_packets { OnErr result (into.new ≡ with_memory into.old into.new.memory) }
         ensures memory { OnErr result (result ≡ Err PacketError.OutOfMemory) }
 
         // Nothing is sent without memory.
@@ -121,12 +123,12 @@ impl<C: PayloadFormat> PayloadPacketizer<C> {
         let mut made = Appending::from_buffer(self.alloc, into);
         match self.prepare_unit(mtu, unit, &mut made) {
             Ok(update) => {
+                made.finish(into)?;
                 self.commit(update);
-                *into = made.finish();
                 Ok(())
             }
             Err(e) => {
-                *into = made.give_up();
+                made.give_up(into);
                 Err(e)
             }
         }

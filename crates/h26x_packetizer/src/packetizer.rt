@@ -8,7 +8,7 @@ ghost use Rattle.h26x_model.specs.Send.PacketizerState.{is_skipped, are_skipped,
 ghost use Rattle.h26x_model.specs.Where.{Where};
 ghost use Rattle.h26x_payload.specs.Sets.{lent_set};
 ghost use Rattle.h26x_packetizer.specs.Sending.{contents, ArePushed, latest_set, outgoing_to_items, is_nothing, kept_set};
-ghost use Rattle.h26x_packetizer.specs.Buffer.{with_packets};
+ghost use Rattle.h26x_packetizer.specs.Buffer.{with_packets, with_memory, IsMemoryWith};
 ghost use Rattle.h26x_packetizer.specs.Placement.{IsPlacement, IsSizeOf, if_placed};
 ghost use Rattle.h26x_packetizer.specs.PacketizerView.{IsPacketizerView, IsViewSentAsPlanned, SendsAsPlanned, packetizer_of, fresh_packetizer, limit_of, view_after_call, view_with_update, held_sets, payload_plan, waiting_after_payload};
 
@@ -314,32 +314,35 @@ impl<C: PayloadFormat> PayloadPacketizer<C> {
         b: &[u8],
         into: &mut PacketBuffer,
     ) -> Result<(), PacketError>
-        ensures packets { OnOk result (into.new
-            ≡ with_packets into.old (next_packets (packetizer_of C.format self.old) mtu b.now)) }
+        ensures packets { OnOk result (into.new ≡ with_packets into.old
+            (next_packets (packetizer_of C.format self.old) mtu b.now) into.new.memory) }
         ensures after { OnOk result (self.new ≡ view_after_call C.format self.old mtu b.now) }
         ensures planned { OnOk result (SendsAsPlanned C.format self.old mtu b.now
             (drop (length into.old.packets) into.new.packets) self.new) }
+        ensures bounded { OnOk result (IsMemoryWith into.old
+            (next_packets (packetizer_of C.format self.old) mtu b.now) into.new.memory) }
 
         ensures kept { OnErr result (self.new ≡ self.old) }
-        ensures kept_packets { OnErr result (into.new ≡ into.old) }
+        ensures kept_packets { OnErr result (into.new ≡ with_memory into.old into.new.memory) }
         ensures memory { OnErr result (result ≡ Err PacketError.OutOfMemory) }
 
         // Calls without effect take no memory.
         ensures free { payload_has_no_effect (packetizer_of C.format self.old) mtu b.now ≡ true →
             IsOk result }
         ensures without_effect { payload_has_no_effect (packetizer_of C.format self.old) mtu b.now
-            ≡ true → OnOk result ((into.new ≡ into.old) × (self.new ≡ self.old)) }
+            ≡ true → OnOk result ((into.new ≡ with_memory into.old into.new.memory)
+            × (self.new ≡ self.old)) }
     {
         self.goes_as_planned(mtu, b);
         let mut made = Appending::from_buffer(self.alloc, into);
         match self.prepare(mtu, b, &mut made) {
             Ok(update) => {
+                made.finish(into)?;
                 self.commit(update);
-                *into = made.finish();
                 Ok(())
             }
             Err(e) => {
-                *into = made.give_up();
+                made.give_up(into);
                 Err(e)
             }
         }

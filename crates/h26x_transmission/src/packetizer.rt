@@ -5,7 +5,7 @@ ghost use Rattle.h26x_model.specs.Send.Limit.{AreWithinLimit};
 ghost use Rattle.h26x_model.specs.Send.PacketizerState.{PacketizerState, IsSentAsPlanned, next_call, next_packets, after_payload, payload_has_no_effect, one_unit_items, one_unit_packets, after_one_unit};
 ghost use Rattle.h26x_model.specs.Send.Rival.{TakesFewestFragments};
 ghost use Rattle.h26x_packetizer.specs.Sending.{contents};
-ghost use Rattle.h26x_packetizer.specs.Buffer.{IsAppended, with_packets};
+ghost use Rattle.h26x_packetizer.specs.Buffer.{IsAppended, with_packets, with_memory, IsMemoryWith};
 ghost use Rattle.h26x_codec.specs.Codec.{default_format, fresh_packetizer_state, limit_at};
 ghost use Rattle.h26x_transmission.specs.CodecStates.{codec_packetizer_state, packetizer_codec, with_max_don_diff, with_max_packet_size, OfPacketizer};
 ghost use Rattle.h26x_transmission.specs.declared.packetizer.CodecPacketizer.TheVariants as p;
@@ -122,7 +122,11 @@ impl CodecPacketizer {
         into: &mut PacketBuffer,
     ) -> Result<(), PacketError>
         ensures packets { OfPacketizer self.old
-            (λ s. OnOk result (into.new ≡ with_packets into.old (next_packets s mtu b.now))) }
+            (λ s. OnOk result (into.new ≡ with_packets into.old (next_packets s mtu b.now)
+            into.new.memory)) }
+        ensures bounded { OfPacketizer self.old
+            (λ s. OnOk result (IsMemoryWith into.old (next_packets s mtu b.now)
+            into.new.memory)) }
         ensures after { OfPacketizer self.old
             (λ s. OnOk result
             (codec_packetizer_state self.new ≡ Some (after_payload s mtu b.now))) }
@@ -138,7 +142,7 @@ impl CodecPacketizer {
 
         // A packetizer in a box too.
         ensures appended { OnOk result (IsAppended into.old into.new) }
-        ensures kept_packets { OnErr result (into.new ≡ into.old) }
+        ensures kept_packets { OnErr result (into.new ≡ with_memory into.old into.new.memory) }
     {
         match self {
             CodecPacketizer::H264(it) => it.packetize_into(mtu, b, into),
@@ -192,7 +196,10 @@ impl CodecPacketizer {
     ) -> Result<(), PacketError>
         ensures packets { OfPacketizer self.old
             (λ s. OnOk result (into.new ≡ with_packets into.old (one_unit_packets s mtu
-            unit.now))) }
+            unit.now) into.new.memory)) }
+        ensures bounded { OfPacketizer self.old
+            (λ s. OnOk result (IsMemoryWith into.old (one_unit_packets s mtu unit.now)
+            into.new.memory)) }
         ensures after { OfPacketizer self.old
             (λ s. OnOk result (codec_packetizer_state self.new ≡ Some (after_one_unit s mtu
             unit.now))) }
@@ -208,7 +215,7 @@ impl CodecPacketizer {
 
         // A packetizer in a box too.
         ensures appended { OnOk result (IsAppended into.old into.new) }
-        ensures kept_packets { OnErr result (into.new ≡ into.old) }
+        ensures kept_packets { OnErr result (into.new ≡ with_memory into.old into.new.memory) }
     {
         match self {
             CodecPacketizer::H264(it) => it.packetize_unit_into(mtu, unit, into),

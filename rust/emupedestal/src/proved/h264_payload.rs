@@ -8,7 +8,7 @@ mod packetizer;
 mod stap;
 
 pub use crate::proved::h26x_core::ANNEXB_NALUSTART_CODE;
-pub use crate::proved::h26x_packetizer::{BufferPackets, PacketBuffer};
+pub use crate::proved::h26x_packetizer::{BufferMemory, BufferPackets, PacketBuffer};
 pub use codec::H264;
 pub use depacketizer::H264Depacketizer;
 pub use detect::{detect_h264_keyframe, detect_h264_nalu};

@@ -15,7 +15,7 @@ mod shows;
 mod spare;
 
 pub use crate::proved::h26x_core::ANNEXB_NALUSTART_CODE;
-pub use crate::proved::h26x_packetizer::{BufferPackets, PacketBuffer};
+pub use crate::proved::h26x_packetizer::{BufferMemory, BufferPackets, PacketBuffer};
 pub use crate::proved::h265_packets::{
     H265AggregationPacket, H265AggregationUnit, H265AggregationUnitFirst,
     H265FragmentationUnitPacket, H265PACIPacket, H265Payload, H265SingleNALUnitPacket,

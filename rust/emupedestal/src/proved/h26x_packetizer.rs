@@ -32,6 +32,7 @@ mod units;
 mod update;
 
 pub use buffer::PacketBuffer;
+pub use buffer::memory::BufferMemory;
 pub use buffer_packets::BufferPackets;
 pub use packetizer::PayloadPacketizer;
 pub use placement::{PacketsSize, Placement};

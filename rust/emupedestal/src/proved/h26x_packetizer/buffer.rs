@@ -3,13 +3,18 @@
 //! Packets behind each other in one buffer.
 
 mod loan;
+pub mod memory;
 
+use self::memory::{BufferMemory, is_at_most, make_room};
 use crate::proved::h26x_packetizer::body::{Body, put_packet};
 use crate::proved::h26x_packetizer::buffer_packets::BufferPackets;
 use crate::proved::h26x_packetizer::sink::PacketSink;
 use crate::support::AllocError;
 use alloc::vec::Vec;
 use core::mem;
+
+/// How many packets' ends a buffer has room for at first.
+const FIRST_ENDS: usize = 8;
 
 /// Packets behind each other in one buffer, and before each so many bytes that are free for the
 /// headers of the layers below (as of RTP, RFC 3550, 5.1). A buffer that is cleared keeps its
@@ -62,6 +67,24 @@ impl PacketBuffer {
     /// How many packets it holds.
     pub fn len(&self) -> usize {
         self.ends.len()
+    }
+
+    /// For how much it has memory.
+    pub fn memory(&self) -> BufferMemory {
+        BufferMemory {
+            bytes: self.bytes.capacity(),
+            ends: self.ends.capacity(),
+        }
+    }
+
+    /// Whether it has no more memory than what stands in it may take, where it had so much before.
+    fn is_within(&self, before: BufferMemory) -> bool {
+        is_at_most(self.bytes.capacity(), before.bytes, self.bytes.len())
+            && is_at_most(
+                self.ends.capacity(),
+                before.ends,
+                self.ends.len() + FIRST_ENDS,
+            )
     }
 
     /// The bytes that are free before each packet.
@@ -120,51 +143,54 @@ impl PacketBuffer {
 
     /// Appends a packet of these parts, one behind the other, behind a headroom of zeros.
     #[inline(always)]
-    pub(crate) fn push_parts(
-        &mut self,
-        header: &[u8],
-        donl: &[u8],
-        body: Body<'_>,
-    ) -> Result<(), AllocError> {
+    fn push_parts(&mut self, header: &[u8], donl: &[u8], body: Body<'_>) -> Result<(), AllocError> {
         let len = header
             .len()
             .saturating_add(donl.len())
             .saturating_add(body.len());
-        self.ends.try_reserve(1)?;
-        self.bytes.try_reserve(self.headroom.saturating_add(len))?;
+        make_room(&mut self.ends, 1, FIRST_ENDS)?;
+        make_room(&mut self.bytes, self.headroom.saturating_add(len), 0)?;
         put_packet(self.headroom, header, donl, body, &mut self.bytes);
         self.ends.push(self.bytes.len());
         Ok(())
     }
 
     /// Appends a packet behind its headroom, which is of zeros. Only want of memory refuses it, and
-    /// leaves everything.
+    /// leaves the packets. Memory grows to twice what it was, and only where there is none left.
     pub(crate) fn try_push(&mut self, packet: &[u8]) -> Result<(), AllocError> {
-        self.push_parts(&[], &[], Body::Data(packet))
+        let mut made = Appending::from_buffer(self);
+        match made.push_packet(packet) {
+            Ok(()) => made.finish(self),
+            Err(e) => {
+                made.give_up(self);
+                Err(e)
+            }
+        }
     }
 
     /// Appends packets, each behind its headroom of zeros: all of them, or none where memory lacks.
     pub(crate) fn push_all(&mut self, packets: &[Vec<u8>]) -> Result<(), AllocError> {
-        let before = self.len();
-        for packet in packets {
-            if let Err(e) = self.try_push(packet) {
-                self.truncate(before);
-                return Err(e);
+        let mut made = Appending::from_buffer(self);
+        match made.push_packets(packets) {
+            Ok(()) => made.finish(self),
+            Err(e) => {
+                made.give_up(self);
+                Err(e)
             }
         }
-        Ok(())
     }
 
     /// Reserves room for so many packets more, but none for their bytes.
     pub(crate) fn try_reserve(&mut self, count: usize) -> Result<(), AllocError> {
-        Ok(self.ends.try_reserve(count)?)
+        make_room(&mut self.ends, count, FIRST_ENDS)
     }
 }
 
-/// A buffer to which packets are appended, and how many it had before.
+/// A buffer to which packets are appended, and how many and how much memory it had before.
 pub(crate) struct Appending {
     buffer: PacketBuffer,
     first: usize,
+    memory: BufferMemory,
 }
 
 impl Appending {
@@ -173,19 +199,44 @@ impl Appending {
         let headroom = into.headroom();
         let buffer = mem::replace(into, PacketBuffer::new(headroom));
         let first = buffer.len();
-        Appending { buffer, first }
+        let memory = buffer.memory();
+        Appending {
+            buffer,
+            first,
+            memory,
+        }
     }
 
-    /// The buffer with what was appended.
-    pub(crate) fn finish(self) -> PacketBuffer {
-        self.buffer
+    /// Appends a packet.
+    fn push_packet(&mut self, packet: &[u8]) -> Result<(), AllocError> {
+        self.buffer.push_parts(&[], &[], Body::Data(packet))
     }
 
-    /// The buffer as it was.
-    pub(crate) fn give_up(self) -> PacketBuffer {
+    /// Appends packets.
+    fn push_packets(&mut self, packets: &[Vec<u8>]) -> Result<(), AllocError> {
+        for packet in packets {
+            self.push_packet(packet)?;
+        }
+        Ok(())
+    }
+
+    /// Puts the buffer in its place, with what was appended; as it was where it has more memory than it
+    /// may, which is want of memory.
+    pub(crate) fn finish(self, into: &mut PacketBuffer) -> Result<(), AllocError> {
+        if self.buffer.is_within(self.memory) {
+            *into = self.buffer;
+            Ok(())
+        } else {
+            self.give_up(into);
+            Err(AllocError)
+        }
+    }
+
+    /// Puts the buffer in its place, as it was.
+    pub(crate) fn give_up(self, into: &mut PacketBuffer) {
         let mut buffer = self.buffer;
         buffer.truncate(self.first);
-        buffer
+        *into = buffer;
     }
 }
 
@@ -195,8 +246,9 @@ impl<'a> PacketSink<'a> for Appending {
         self.buffer.push_parts(header, donl, body)
     }
 
+    /// None: the buffer grows with its packets, and so has no memory for those that don't come.
     #[inline(always)]
-    fn try_reserve(&mut self, count: usize) -> Result<(), AllocError> {
-        self.buffer.try_reserve(count)
+    fn try_reserve(&mut self, _count: usize) -> Result<(), AllocError> {
+        Ok(())
     }
 }

@@ -63,12 +63,12 @@ impl<C: PayloadFormat> PayloadPacketizer<C> {
         let mut made = Appending::from_buffer(into);
         match self.prepare_unit(mtu, unit, &mut made) {
             Ok(update) => {
+                made.finish(into)?;
                 self.commit(update);
-                *into = made.finish();
                 Ok(())
             }
             Err(e) => {
-                *into = made.give_up();
+                made.give_up(into);
                 Err(e)
             }
         }

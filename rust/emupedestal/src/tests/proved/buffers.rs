@@ -1,7 +1,7 @@
 //! The calls of a buffer of packets itself.
 
 use super::list;
-use crate::proved::h26x_codec::PacketBuffer;
+use crate::proved::h26x_codec::{BufferMemory, PacketBuffer};
 
 /// Appends packets for whose ends there is room, the first alone and then the others together.
 fn push_each(buffer: &mut PacketBuffer, packets: &str) {
@@ -64,6 +64,29 @@ fn packets_pushed_and_kept() {
         push_each(&mut buffer, pushed);
         has(&buffer, &list(pushed));
     }
+}
+
+/// A buffer has memory for eight packets at first, and then for twice as many; for their bytes too. None of it goes.
+#[test]
+fn memory_by_doubling() {
+    let mut buffer = PacketBuffer::new(1);
+    assert_eq!(buffer.memory(), BufferMemory { bytes: 0, ends: 0 });
+    let mut told = Vec::new();
+    for _ in 0..17 {
+        buffer.try_push(&[5; 9]).expect("memory");
+        let BufferMemory { bytes, ends } = buffer.memory();
+        told.push((bytes, ends));
+    }
+    let want = [1, 2, 4, 4, 8, 8, 8, 8, 16, 16, 16, 16, 16, 16, 16, 16, 32];
+    assert_eq!(told, want.map(|count| (10 * count, count.max(8))));
+    buffer.clear();
+    assert_eq!(
+        buffer.memory(),
+        BufferMemory {
+            bytes: 320,
+            ends: 32
+        }
+    );
 }
 
 /// A buffer shows a header that was written, and leaves its packets.

@@ -15,3 +15,6 @@ returns-in-H265-clause-after c = rw c.in-H265.is (then_mapped (λ v. packetizer_
 
 pub returns-in-H266-clause-after : goal.returns-in-H266-clause-after
 returns-in-H266-clause-after c = rw c.in-H266.is (then_mapped (λ v. packetizer_state (h266_setting.setting_format v.codec) v) _ _ c.packetize_into-in-H266.result c.packetize_into-in-H266.ensures.after)
+
+pub returns-in-H266-clause-bounded : goal.returns-in-H266-clause-bounded
+returns-in-H266-clause-bounded c = rw c.in-H266.is c.packetize_into-in-H266.ensures.bounded

@@ -3,6 +3,8 @@ use Rattle.std.specs.Vec.{with_items}
 use Rattle.std.proofs.lemmas.List.{with_items_is}
 use borrow.Rule.Slice.PartMut.{put_mid}
 use Rattle.h26x_packetizer.specs.Buffer.{PacketBufferView, last_end, packets_from, headrooms_from, buffer_of, headed_at}
+use Rattle.std.specs.Prelude.{vec_capacity}
+use Rattle.h26x_packetizer.specs.declared.buffer.memory.BufferMemory.{BufferMemory}
 use Rattle.h26x_packetizer.proofs.BufferLemmas.{packets_count, packets_headed, headrooms_headed, length_put}
 use Rattle.h26x_packetizer.proofs.buffer.PacketBuffer.write_header.Goals as goal
 
@@ -17,6 +19,7 @@ bounds_of-start-requires-clause-place c =
 pub returns : goal.returns
 returns c =
     let h = c.self.inside.headroom in
+    let memory : BufferMemory = record { bytes = vec_capacity c.self.inside.bytes; ends = vec_capacity c.self.inside.ends } in
     let bytes = c.self.inside.bytes.items in
     let ends = c.self.inside.ends.items in
     let same_ends : c.deref-2.result.now ≡ ends = search rules in
@@ -42,8 +45,8 @@ returns c =
     let last = c.self.invariant.to_the_end in
     let packets = packets_headed h 0 bytes ends header a k c.args.place c.self.invariant.in_order place (omega (arith, at, room)) (omega (arith, at, room)) long within in
     let headrooms = headrooms_headed h 0 bytes ends header a k c.args.place c.self.invariant.in_order place (omega (arith, at, room)) (omega (arith, at, room)) long (omega (arith, last)) in
-    ap (λ (b : List ℕ). buffer_of h b ends) wrote ∙ ap (λ (b : List ℕ). buffer_of h (put_mid a k b header) ends) same_bytes
-    ∙ ap (λ (l : List (List ℕ)). record { packets = l; headrooms = headrooms_from h 0 (put_mid a k bytes header) ends; headroom = h }) packets
-    ∙ ap (λ (l : List (List ℕ)). record { packets = packets_from h 0 bytes ends; headrooms = l; headroom = h }) headrooms
+    ap (λ (b : List ℕ). buffer_of h b ends memory) wrote ∙ ap (λ (b : List ℕ). buffer_of h (put_mid a k b header) ends memory) same_bytes
+    ∙ ap (λ (l : List (List ℕ)). record { packets = l; headrooms = headrooms_from h 0 (put_mid a k bytes header) ends; headroom = h; memory = memory }) packets
+    ∙ ap (λ (l : List (List ℕ)). record { packets = packets_from h 0 bytes ends; headrooms = l; headroom = h; memory = memory }) headrooms
     ∙ ap (λ (b : PacketBufferView). record b { headrooms = headed_at c.args.place header b.headrooms }) c.self.view_is
     ∙ ap (λ (l : List ℕ). record c.args.self.now { headrooms = headed_at c.args.place l c.args.self.now.headrooms }) copied
