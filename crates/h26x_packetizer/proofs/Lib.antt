@@ -1,6 +1,9 @@
 pub mod FragmentLemmas
 pub mod SendLemmas
+pub mod EveryLemmas
+pub mod GroupLemmas
 pub mod HeldLemmas
 pub mod BufferLemmas
+pub mod PieceLemmas
 pub mod PlacementLemmas
 pub mod BufferLoanLemmas

@@ -8,6 +8,7 @@ use Rattle.h26x_model.specs.Send.Packets.{plan_packets}
 use Rattle.h26x_model.specs.Send.WaitingSets.{WaitingSets}
 use Rattle.h26x_packetizer.specs.declared.body.Body.{Body}
 use Rattle.h26x_packetizer.specs.declared.body.Body.TheVariants as b
+use Rattle.h26x_packetizer.specs.Group.{lent_units}
 use Rattle.h26x_packetizer.specs.declared.packetizer.Brought.{Brought}
 use Rattle.h26x_packetizer.specs.declared.units.Outgoing.{Outgoing}
 use Rattle.h26x_packetizer.specs.declared.units.Outgoing.TheVariants as d
@@ -51,6 +52,7 @@ waiting_with_update w u = record {
 abbrev pub body_bytes : Body → List ℕ
 body_bytes (b.Data bytes) = bytes.now
 body_bytes (b.Sets sets gap) = sets_behind_lengths gap.now (sets_list sets)
+body_bytes (b.Units units gap) = sets_behind_lengths gap.now (lent_units units.now)
 
 -- a packet of these parts, one behind the other
 abbrev pub packet_bytes : List ℕ → List ℕ → Body → List ℕ

@@ -3,6 +3,7 @@
 ghost use Rattle.std.specs.Prelude.{◌≡◌, ◌≤◌, ◌+◌, ◌-◌, ◌^◌, ◌++◌, replicate, min, length, vec_len, vec_capacity};
 ghost use Rattle.h26x_packetizer.specs.Sending.{body_bytes, packet_bytes, packet_len};
 
+use crate::pieces::{copy_pieces, pieces_len, put_pieces};
 use h26x_payload::Sets;
 
 /// What stands behind a packet's header and its number.
@@ -11,7 +12,15 @@ pub enum Body<'a> {
     /// A unit without its header, or a part of it.
     Data(&'a [u8]),
     /// Sets, each behind its length; `gap` goes before the length of each but the first.
-    Sets { sets: Sets<'a>, gap: &'a [u8] },
+    Sets {
+        sets: Sets<'a>,
+        gap: &'a [u8],
+    },
+    /// Units, each behind its length; `gap` goes before the length of each but the first.
+    Units {
+        units: &'a [&'a [u8]],
+        gap: &'a [u8],
+    },
 }
 
 impl<'a> Body<'a> {
@@ -23,6 +32,7 @@ impl<'a> Body<'a> {
         match self {
             Body::Data(data) => data.len(),
             Body::Sets { sets, gap } => sets.len_with(gap),
+            Body::Units { units, gap } => pieces_len(gap, units),
         }
     }
 
@@ -36,6 +46,7 @@ impl<'a> Body<'a> {
         match self {
             Body::Data(data) => bytes.extend_from_slice(data).unwrap(),
             Body::Sets { sets, gap } => sets.put(gap, bytes),
+            Body::Units { units, gap } => put_pieces(gap, units, bytes),
         }
     }
 
@@ -48,6 +59,7 @@ impl<'a> Body<'a> {
         match self {
             Body::Data(data) => to.copy_from_slice(data),
             Body::Sets { sets, gap } => sets.copy_to(gap, to),
+            Body::Units { units, gap } => copy_pieces(gap, units, to),
         }
     }
 }

@@ -1,6 +1,7 @@
 //! The packets of units and of the sets before them, for every codec.
 
-ghost use Rattle.std.specs.Prelude.{◌≡◌, ◌≤◌, ◌++◌, ◌∷◌, [], false, map, filter, length, IfOk, IsOk, OnOk, OnErr, Err};
+ghost use Rattle.std.specs.Prelude.{◌≡◌, ◌≤◌, ◌++◌, ◌+◌, ◌∷◌, [], false, nat_lt, map, filter, length, IfOk, IsOk, OnOk, OnErr, Err};
+ghost use Rattle.h26x_model.specs.Payload.Format.{donl_len, fragment_header_len};
 ghost use Rattle.h26x_model.specs.Send.Plan.{Alone, fits_one_packet, unit_items, sets_items};
 ghost use Rattle.h26x_model.specs.Send.Packets.{single_packet};
 ghost use Rattle.h26x_payload.specs.Sets.{lent_set, sets_list};
@@ -44,8 +45,16 @@ fn push_single<'a, C: PayloadFormat, S: PacketSink<'a>>(
     made.push(&unit[..header_len], donl, Body::Data(&unit[header_len..]))
 }
 
+/// Whether fragments have room for data.
+pub(crate) fn has_room<C: PayloadFormat>(codec: C, limit: usize) -> bool
+    ensures { result ≡ nat_lt (fragment_header_len (C.format codec) + donl_len (C.format codec))
+        limit }
+{
+    limit > codec.header_len() + 1 + donl_len(codec)
+}
+
 /// Whether a unit and its number go in one packet.
-fn fits_one<C: PayloadFormat>(codec: C, limit: usize, unit: &[u8]) -> bool
+pub(crate) fn fits_one<C: PayloadFormat>(codec: C, limit: usize, unit: &[u8]) -> bool
     ensures { result ≡ fits_one_packet (C.format codec) limit unit.now }
 {
     unit.len() + donl_len(codec) <= limit
@@ -69,7 +78,7 @@ pub(crate) fn push_unit<'a, C: PayloadFormat, S: PacketSink<'a>>(
 {
     if fits_one(codec, limit, unit) {
         push_single(codec, don, unit, made)?;
-    } else if limit > codec.header_len() + 1 + donl_len(codec) {
+    } else if has_room(codec, limit) {
         push_fragments(codec, limit, don, unit, made)?;
     } else {
         return Ok(don);

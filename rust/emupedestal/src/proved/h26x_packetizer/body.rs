@@ -2,6 +2,7 @@
 
 //! What stands behind a packet's header and its number.
 
+use crate::proved::h26x_packetizer::pieces::{copy_pieces, pieces_len, put_pieces};
 use crate::proved::h26x_payload::Sets;
 use crate::support::AppendBytes;
 use alloc::vec::Vec;
@@ -13,6 +14,11 @@ pub enum Body<'a> {
     Data(&'a [u8]),
     /// Sets, each behind its length; `gap` goes before the length of each but the first.
     Sets { sets: Sets<'a>, gap: &'a [u8] },
+    /// Units, each behind its length; `gap` goes before the length of each but the first.
+    Units {
+        units: &'a [&'a [u8]],
+        gap: &'a [u8],
+    },
 }
 
 impl<'a> Body<'a> {
@@ -22,6 +28,7 @@ impl<'a> Body<'a> {
         match self {
             Body::Data(data) => data.len(),
             Body::Sets { sets, gap } => sets.len_with(gap),
+            Body::Units { units, gap } => pieces_len(gap, units),
         }
     }
 
@@ -31,6 +38,7 @@ impl<'a> Body<'a> {
         match self {
             Body::Data(data) => bytes.append_bytes(data),
             Body::Sets { sets, gap } => sets.put(gap, bytes),
+            Body::Units { units, gap } => put_pieces(gap, units, bytes),
         }
     }
 
@@ -40,6 +48,7 @@ impl<'a> Body<'a> {
         match self {
             Body::Data(data) => to.copy_from_slice(data),
             Body::Sets { sets, gap } => sets.copy_to(gap, to),
+            Body::Units { units, gap } => copy_pieces(gap, units, to),
         }
     }
 }

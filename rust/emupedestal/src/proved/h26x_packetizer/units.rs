@@ -35,8 +35,13 @@ fn push_single<'a, C: PayloadFormat, S: PacketSink<'a>>(
     made.try_push(&unit[..header_len], donl, Body::Data(&unit[header_len..]))
 }
 
+/// Whether fragments have room for data.
+pub(crate) fn has_room<C: PayloadFormat>(codec: C, limit: usize) -> bool {
+    limit > codec.header_len() + 1 + donl_len(codec)
+}
+
 /// Whether a unit and its number go in one packet.
-fn fits_one<C: PayloadFormat>(codec: C, limit: usize, unit: &[u8]) -> bool {
+pub(crate) fn fits_one<C: PayloadFormat>(codec: C, limit: usize, unit: &[u8]) -> bool {
     unit.len() + donl_len(codec) <= limit
 }
 
@@ -51,7 +56,7 @@ pub(crate) fn push_unit<'a, C: PayloadFormat, S: PacketSink<'a>>(
 ) -> Result<u16, PacketError> {
     if fits_one(codec, limit, unit) {
         push_single(codec, don, unit, made)?;
-    } else if limit > codec.header_len() + 1 + donl_len(codec) {
+    } else if has_room(codec, limit) {
         push_fragments(codec, limit, don, unit, made)?;
     } else {
         return Ok(don);

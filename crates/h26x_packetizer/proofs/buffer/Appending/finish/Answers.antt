@@ -1,6 +1,6 @@
-use Rattle.std.proofs.Common.{rules, ◌≡◌, ◌≤◌, length, drop, [], ap, sym, ◌∙◌, arith, IsTrue, List, ℕ}
+use Rattle.std.proofs.Common.{◌≡◌, ◌≤◌, length, drop, [], ap, sym, ◌∙◌, arith, IsTrue}
 use Rattle.std.proofs.lemmas.List.{length-drop}
-use Rattle.h26x_packetizer.specs.Buffer.{AppendedView, PacketBufferView}
+use Rattle.h26x_packetizer.specs.Buffer.{AppendedView}
 use Rattle.h26x_packetizer.proofs.buffer.Appending.finish.Goals as goal
 
 pub returns-else-is_within-clause-free : goal.returns-else-is_within-clause-free

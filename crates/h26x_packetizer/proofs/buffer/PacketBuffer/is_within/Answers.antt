@@ -1,6 +1,6 @@
-use Rattle.std.proofs.Common.{arith, ◌≡◌, ◌≤◌, ◌+◌, ◌*◌, max, length, subst, sym, ◌∙◌, IsTrue, false, ℕ}
+use Rattle.std.proofs.Common.{arith, ◌≡◌, ◌≤◌, ◌*◌, max, length, subst, sym, ◌∙◌, IsTrue, false}
 use Rattle.std.specs.Prelude.{vec_capacity}
-use Rattle.h26x_packetizer.specs.Buffer.{PacketBufferView, IsMemoryFor, packets_from}
+use Rattle.h26x_packetizer.specs.Buffer.{PacketBufferView, IsMemoryFor}
 use Rattle.h26x_packetizer.specs.declared.buffer.memory.BufferMemory.{BufferMemory}
 use Rattle.h26x_packetizer.proofs.BufferLemmas.{memory_for, memory_of}
 use Rattle.h26x_packetizer.proofs.buffer.PacketBuffer.is_within.Goals as goal

@@ -1,5 +1,4 @@
-use Rattle.std.proofs.Common.{rules, ◌≡◌, ◌≤◌, ◌+◌, ◌*◌, max, length, subst, sym, ap, ◌∙◌, OnOk, ℕ}
-use Rattle.std.specs.Prelude.{vec_capacity}
+use Rattle.std.proofs.Common.{◌≡◌, ◌≤◌, ◌+◌, ◌*◌, max, length, subst, sym, ap, ◌∙◌, OnOk, ℕ}
 use Rattle.h26x_packetizer.specs.Buffer.{PacketBufferView}
 use Rattle.h26x_packetizer.proofs.BufferLemmas.{packets_count}
 use Rattle.h26x_packetizer.proofs.buffer.PacketBuffer.reserve.Goals as goal

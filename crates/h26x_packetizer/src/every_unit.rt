@@ -1,0 +1,165 @@
+//! Packets of units, none of which is left out.
+
+ghost use Rattle.std.specs.Prelude.{◌≡◌, ◌++◌, [], Some, None, OnOk, OnErr, IfOk, IsOk, Err};
+ghost use Rattle.h26x_model.specs.Send.Limit.{AreWithinLimit};
+ghost use Rattle.h26x_packetizer.specs.Sending.{contents};
+ghost use Rattle.h26x_packetizer.specs.Buffer.{with_packets, with_memory, IsMemoryWith};
+ghost use Rattle.h26x_packetizer.specs.Group.{lent_units, may_share};
+ghost use Rattle.h26x_packetizer.specs.Refusal.{units_refusal};
+ghost use Rattle.h26x_packetizer.specs.PacketizerView.{IsPacketizerView, limit_of, view_with_update};
+ghost use Rattle.h26x_packetizer.specs.EveryView.{every_packets, view_after_units};
+
+use crate::buffer::{Appending, PacketBuffer};
+use crate::every::push_units;
+use crate::every_format::EveryFormat;
+use crate::packetizer::PayloadPacketizer;
+use crate::packing::Packing;
+use crate::refusal::{RefusedUnit, units_refusal};
+use crate::sink::PacketSink;
+use crate::update::Update;
+use std::alloc::AllocError;
+
+/// Why units are refused. A refused call changes nothing.
+#[derive(Debug, Clone, Copy, PartialEq, Eq)]
+pub enum EveryUnitError {
+    /// The first unit that can't go.
+    Unit(RefusedUnit),
+    /// The allocator had no memory.
+    OutOfMemory,
+}
+
+impl<C: EveryFormat> PayloadPacketizer<C> {
+    /// Appends the packets of units, and tells what the call changes.
+    fn prepare_units<'a, S: PacketSink<'a>>(
+        &self,
+        packing: Packing,
+        mtu: usize,
+        units: &'a [&'a [u8]],
+        made: &mut S,
+    ) -> Result<Update, EveryUnitError>
+        ensures packets { OnOk result (S.packets made.new ≡ S.packets made.old
+            ++ every_packets C.format C.aggregate (may_share packing (C.is_slice self.now.codec))
+            self.now mtu (lent_units units.now)) }
+        ensures after { IfOk result (λ it. view_with_update self.now it
+            ≡ view_after_units C.format self.now (lent_units units.now)) }
+        ensures is { IfOk result (λ it. IsPacketizerView C.format (view_with_update self.now it)) }
+        ensures before { S.before made.new ≡ S.before made.old }
+        ensures within { IfOk result (λ it. AreWithinLimit (limit_of C.format self.now mtu)
+            (every_packets C.format C.aggregate (may_share packing (C.is_slice self.now.codec))
+            self.now mtu (lent_units units.now))) }
+        ensures refused { (unit : RefusedUnit) → units_refusal (C.format self.now.codec) packing
+            (limit_of C.format self.now mtu) 0 (lent_units units.now) ≡ Some unit →
+            result ≡ Err (EveryUnitError.Unit unit) }
+        ensures memory { units_refusal (C.format self.now.codec) packing
+            (limit_of C.format self.now mtu) 0 (lent_units units.now) ≡ None →
+            OnErr result (result ≡ Err EveryUnitError.OutOfMemory) }
+    {
+        let limit = self.limit(mtu);
+        if let Some(unit) = units_refusal(self.codec, packing, limit, units) {
+            return Err(EveryUnitError::Unit(unit));
+        }
+        match push_units(self.codec, packing, limit, self.next_don, units, made) {
+            Ok(next_don) => {
+                let next_don = if self.codec.has_donl() {
+                    next_don
+                } else {
+                    self.next_don
+                };
+                Ok(Update::number(next_don))
+            }
+            Err(_) => Err(EveryUnitError::OutOfMemory),
+        }
+    }
+
+    /// The packets of the NAL units of one access unit, each without its start code, in order and as
+    /// they are: a unit alone, those that fit one packet together (RFC 6184, 5.7.1; RFC 7798, 4.4.2;
+    /// RFC 9328, 4.3.2), and one that is longer than a packet in fragments.
+    ///
+    /// Where all may share a packet no sender that brings these units needs fewer: a law of
+    /// h26x_model. With decoding order numbers each unit takes one. Sets that wait stay, whatever
+    /// kinds the units are of.
+    ///
+    /// The first unit that can't go is named, and nothing is sent then: one without a whole header,
+    /// with F set, of a type of packets, or too long where no fragment has room for data. Else
+    /// `OutOfMemory` is its only error. Both leave everything.
+    pub fn packetize_units<'a>(
+        &mut self,
+        packing: Packing,
+        mtu: usize,
+        units: &'a [&'a [u8]],
+    ) -> Result<Vec<Vec<u8>>, EveryUnitError>
+        ensures packets { IfOk result (λ made. contents made.items
+            ≡ every_packets C.format C.aggregate (may_share packing (C.is_slice self.old.codec))
+            self.old mtu (lent_units units.now)) }
+        ensures after { OnOk result (self.new
+            ≡ view_after_units C.format self.old (lent_units units.now)) }
+        ensures within { IfOk result (λ made.
+            AreWithinLimit (limit_of C.format self.old mtu) (contents made.items)) }
+        ensures kept { OnErr result (self.new ≡ self.old) }
+        ensures refused { (unit : RefusedUnit) → units_refusal (C.format self.old.codec) packing
+            (limit_of C.format self.old mtu) 0 (lent_units units.now) ≡ Some unit →
+            result ≡ Err (EveryUnitError.Unit unit) }
+        ensures memory { units_refusal (C.format self.old.codec) packing
+            (limit_of C.format self.old mtu) 0 (lent_units units.now) ≡ None →
+            OnErr result (result ≡ Err EveryUnitError.OutOfMemory) }
+    {
+        let mut made = Vec::new(self.alloc);
+        let update = self.prepare_units(packing, mtu, units, &mut made)?;
+        self.commit(update);
+        Ok(made)
+    }
+
+    /// Appends the packets of [`packetize_units`](PayloadPacketizer::packetize_units) to a buffer, each
+    /// behind its headroom.
+    pub fn packetize_units_into<'a>(
+        &mut self,
+        packing: Packing,
+        mtu: usize,
+        units: &'a [&'a [u8]],
+        into: &mut PacketBuffer,
+    ) -> Result<(), EveryUnitError>
+        ensures packets { OnOk result (into.new ≡ with_packets into.old
+            (every_packets C.format C.aggregate (may_share packing (C.is_slice self.old.codec))
+            self.old mtu (lent_units units.now)) into.new.memory) }
+        ensures after { OnOk result (self.new
+            ≡ view_after_units C.format self.old (lent_units units.now)) }
+        ensures within { OnOk result (AreWithinLimit (limit_of C.format self.old mtu)
+            (every_packets C.format C.aggregate (may_share packing (C.is_slice self.old.codec))
+            self.old mtu (lent_units units.now))) }
+        ensures bounded { OnOk result (IsMemoryWith into.old
+            (every_packets C.format C.aggregate (may_share packing (C.is_slice self.old.codec))
+            self.old mtu (lent_units units.now)) into.new.memory) }
+        ensures kept { OnErr result (self.new ≡ self.old) }
+        ensures kept_packets { OnErr result (into.new ≡ with_memory into.old into.new.memory) }
+        ensures refused { (unit : RefusedUnit) → units_refusal (C.format self.old.codec) packing
+            (limit_of C.format self.old mtu) 0 (lent_units units.now) ≡ Some unit →
+            result ≡ Err (EveryUnitError.Unit unit) }
+        ensures memory { units_refusal (C.format self.old.codec) packing
+            (limit_of C.format self.old mtu) 0 (lent_units units.now) ≡ None →
+            OnErr result (result ≡ Err EveryUnitError.OutOfMemory) }
+    {
+        let mut made = Appending::from_buffer(self.alloc, into);
+        match self.prepare_units(packing, mtu, units, &mut made) {
+            Ok(update) => {
+                made.finish(into)?;
+                self.commit(update);
+                Ok(())
+            }
+            Err(e) => {
+                made.give_up(into);
+                Err(e)
+            }
+        }
+    }
+}
+
+impl From<AllocError> for EveryUnitError {
+    ghost use Rattle.std.specs.Prelude.{◌≡◌};
+    ghost use Rattle.h26x_packetizer.specs.declared.every_unit.EveryUnitError.TheVariants.{OutOfMemory};
+
+    ghost from_gives = { λ _ e. e ≡ OutOfMemory };
+
+    fn from(_e: AllocError) -> EveryUnitError {
+        EveryUnitError::OutOfMemory
+    }
+}

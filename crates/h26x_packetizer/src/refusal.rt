@@ -1,0 +1,93 @@
+//! Units that can't go.
+
+ghost use Rattle.std.specs.Prelude.{◌≡◌, ◌<◌, length};
+ghost use Rattle.h26x_model.specs.Send.Every.{has_f_bit, has_own_header};
+ghost use Rattle.h26x_packetizer.specs.Group.{lent_units};
+ghost use Rattle.h26x_packetizer.specs.Refusal.{unit_refusal, units_refusal, is_too_long};
+
+use crate::every_format::EveryFormat;
+use crate::packing::Packing;
+use crate::units::{fits_one, has_room};
+
+/// Why a unit can't go.
+#[derive(Debug, Clone, Copy, PartialEq, Eq)]
+pub enum WhyRefused {
+    /// It has no whole header.
+    WithoutHeader,
+    /// Its forbidden bit is set (RFC 6184, 1.3; RFC 7798, 1.1.4; RFC 9328, 1.1.4).
+    Forbidden,
+    /// Its type is one of packets (RFC 6184, 5.2; RFC 7798, 4.4; RFC 9328, 4.3).
+    OfPacketType,
+    /// It is longer than a packet, and no fragment has room for its data, or none may go.
+    TooLong,
+}
+
+/// A unit that can't go: its place among the units of the call, its length in bytes, and why.
+#[derive(Debug, Clone, Copy, PartialEq, Eq)]
+pub struct RefusedUnit {
+    pub place: usize,
+    pub len: usize,
+    pub why: WhyRefused,
+}
+
+/// Whether the forbidden bit of a unit is set.
+fn has_f_bit(unit: &[u8]) -> bool
+    ensures { result ≡ has_f_bit unit.now }
+{
+    match unit.first() {
+        Some(first) => *first >= 0x80,
+        None => false,
+    }
+}
+
+/// Whether a unit is too long for the packets of a call.
+fn is_too_long<C: EveryFormat>(codec: C, packing: Packing, limit: usize, unit: &[u8]) -> bool
+    ensures { result ≡ is_too_long (C.format codec) packing limit unit.now }
+{
+    !fits_one(codec, limit, unit) && (packing == Packing::Single || !has_room(codec, limit))
+}
+
+/// Why this unit can't go, if it can't.
+fn unit_refusal<C: EveryFormat>(
+    codec: C,
+    packing: Packing,
+    limit: usize,
+    unit: &[u8],
+) -> Option<WhyRefused>
+    ensures { result ≡ unit_refusal (C.format codec) packing limit unit.now }
+{
+    if unit.len() < codec.header_len() {
+        Some(WhyRefused::WithoutHeader)
+    } else if has_f_bit(unit) {
+        Some(WhyRefused::Forbidden)
+    } else if !codec.has_own_header(unit) {
+        Some(WhyRefused::OfPacketType)
+    } else if is_too_long(codec, packing, limit, unit) {
+        Some(WhyRefused::TooLong)
+    } else {
+        None
+    }
+}
+
+/// The first of the units that can't go, if there is one.
+pub(crate) fn units_refusal<C: EveryFormat>(
+    codec: C,
+    packing: Packing,
+    limit: usize,
+    units: &[&[u8]],
+) -> Option<RefusedUnit>
+    ensures { result ≡ units_refusal (C.format codec) packing limit 0 (lent_units units.now) }
+{
+    let mut place = 0;
+    for unit in units {
+        if let Some(why) = unit_refusal(codec, packing, limit, unit) {
+            return Some(RefusedUnit {
+                place,
+                len: unit.len(),
+                why,
+            });
+        }
+        place += 1;
+    }
+    None
+}

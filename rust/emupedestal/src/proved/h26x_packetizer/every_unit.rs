@@ -1,0 +1,102 @@
+// Made from crates/h26x_packetizer/src/every_unit.rt by tools/to-rust.
+
+//! Packets of units, none of which is left out.
+
+use crate::proved::h26x_packetizer::buffer::{Appending, PacketBuffer};
+use crate::proved::h26x_packetizer::every::push_units;
+use crate::proved::h26x_packetizer::every_format::EveryFormat;
+use crate::proved::h26x_packetizer::packetizer::PayloadPacketizer;
+use crate::proved::h26x_packetizer::packing::Packing;
+use crate::proved::h26x_packetizer::refusal::{RefusedUnit, units_refusal};
+use crate::proved::h26x_packetizer::sink::PacketSink;
+use crate::proved::h26x_packetizer::update::Update;
+use crate::support::AllocError;
+use alloc::vec::Vec;
+
+/// Why units are refused. A refused call changes nothing.
+#[derive(Debug, Clone, Copy, PartialEq, Eq)]
+pub enum EveryUnitError {
+    /// The first unit that can't go.
+    Unit(RefusedUnit),
+    /// The allocator had no memory.
+    OutOfMemory,
+}
+
+impl<C: EveryFormat> PayloadPacketizer<C> {
+    /// Appends the packets of units, and tells what the call changes.
+    fn prepare_units<'a, S: PacketSink<'a>>(
+        &self,
+        packing: Packing,
+        mtu: usize,
+        units: &'a [&'a [u8]],
+        made: &mut S,
+    ) -> Result<Update, EveryUnitError> {
+        let limit = self.limit(mtu);
+        if let Some(unit) = units_refusal(self.codec, packing, limit, units) {
+            return Err(EveryUnitError::Unit(unit));
+        }
+        match push_units(self.codec, packing, limit, self.next_don, units, made) {
+            Ok(next_don) => {
+                let next_don = if self.codec.has_donl() {
+                    next_don
+                } else {
+                    self.next_don
+                };
+                Ok(Update::number(next_don))
+            }
+            Err(_) => Err(EveryUnitError::OutOfMemory),
+        }
+    }
+
+    /// The packets of the NAL units of one access unit, each without its start code, in order and as
+    /// they are: a unit alone, those that fit one packet together (RFC 6184, 5.7.1; RFC 7798, 4.4.2;
+    /// RFC 9328, 4.3.2), and one that is longer than a packet in fragments.
+    ///
+    /// Where all may share a packet no sender that brings these units needs fewer: a law of
+    /// h26x_model. With decoding order numbers each unit takes one. Sets that wait stay, whatever
+    /// kinds the units are of.
+    ///
+    /// The first unit that can't go is named, and nothing is sent then: one without a whole header,
+    /// with F set, of a type of packets, or too long where no fragment has room for data. Else
+    /// `OutOfMemory` is its only error. Both leave everything.
+    pub fn packetize_units<'a>(
+        &mut self,
+        packing: Packing,
+        mtu: usize,
+        units: &'a [&'a [u8]],
+    ) -> Result<Vec<Vec<u8>>, EveryUnitError> {
+        let mut made = Vec::new();
+        let update = self.prepare_units(packing, mtu, units, &mut made)?;
+        self.commit(update);
+        Ok(made)
+    }
+
+    /// Appends the packets of [`packetize_units`](PayloadPacketizer::packetize_units) to a buffer, each
+    /// behind its headroom.
+    pub fn packetize_units_into<'a>(
+        &mut self,
+        packing: Packing,
+        mtu: usize,
+        units: &'a [&'a [u8]],
+        into: &mut PacketBuffer,
+    ) -> Result<(), EveryUnitError> {
+        let mut made = Appending::from_buffer(into);
+        match self.prepare_units(packing, mtu, units, &mut made) {
+            Ok(update) => {
+                made.finish(into)?;
+                self.commit(update);
+                Ok(())
+            }
+            Err(e) => {
+                made.give_up(into);
+                Err(e)
+            }
+        }
+    }
+}
+
+impl From<AllocError> for EveryUnitError {
+    fn from(_e: AllocError) -> EveryUnitError {
+        EveryUnitError::OutOfMemory
+    }
+}
