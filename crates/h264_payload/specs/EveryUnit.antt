@@ -1,5 +1,5 @@
 -- H.264 where every unit goes: a STAP-A has the header of its units (RFC 6184, 5.7 and 5.7.1).
-use Rattle.std.specs.Prelude.{◌≡◌, ℕ, ◌+◌, ◌*◌, ◌≤◌, max, true, ◌==◌, List, [], ◌∷◌, slice_index}
+use Rattle.std.specs.Prelude.{◌≡◌, ℕ, ◌+◌, ◌*◌, ◌≤◌, max, true, ◌==◌, nat_le, ◌&&◌, Bool, false, List, [], ◌∷◌, slice_index}
 use Rattle.std.specs.List.{flat_map, list_any, AllByRecursion}
 use Rattle.h26x_core.specs.Word.{field, is_set, flag}
 use Rattle.h26x_core.specs.H264Unit.{type_of}
@@ -43,3 +43,8 @@ pub record IsStapHeader (units : List (List ℕ)) (header : ℕ) : Type 0 where
 abbrev pub AreHeadedByUnits : Type 0
 AreHeadedByUnits = (don : ℕ) (first : List ℕ) (units : List (List ℕ)) →
     IsStapHeader (first ∷ units) (slice_index (own_aggregate don (first ∷ units)) 0)
+
+-- whether a unit is a slice or a part of one (types 1 to 5)
+abbrev pub is_slice : List ℕ → Bool
+is_slice [] = false
+is_slice (first ∷ unit) = nat_le 1 (type_of first) && nat_le (type_of first) 5

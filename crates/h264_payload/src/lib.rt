@@ -18,6 +18,7 @@ mod cases;
 mod codec;
 mod depacketizer;
 mod detect;
+mod every;
 pub mod laws;
 mod packet;
 mod packetizer;
@@ -27,5 +28,7 @@ pub use codec::H264;
 pub use depacketizer::H264Depacketizer;
 pub use detect::{detect_h264_keyframe, detect_h264_nalu};
 pub use h26x_core::ANNEXB_NALUSTART_CODE;
-pub use h26x_packetizer::{BufferMemory, BufferPackets, PacketBuffer};
+pub use h26x_packetizer::{
+    BufferMemory, BufferPackets, EveryUnitError, PacketBuffer, Packing, RefusedUnit, WhyRefused,
+};
 pub use packetizer::H264Packetizer;

@@ -1,6 +1,7 @@
 -- H.265 where every unit goes: an aggregate has the header of its units (RFC 7798, 4.4.2).
-use Rattle.std.specs.Prelude.{ℕ, Bool, if◌then◌else◌, List, [], ◌∷◌, ◌++◌, slice_index}
+use Rattle.std.specs.Prelude.{ℕ, Bool, false, nat_lt, if◌then◌else◌, List, [], ◌∷◌, ◌++◌, slice_index}
 use Rattle.std.specs.List.{flat_map}
+use Rattle.h26x_core.specs.H265Unit.{type_of}
 use Rattle.h26x_core.specs.Pieces.{piece}
 use Rattle.h26x_model.specs.Payload.Format.{Format, donl_bytes}
 use Rattle.h26x_model.specs.Send.Every.{with_own_aggregates}
@@ -29,3 +30,8 @@ abbrev pub AreHeadedByUnits : Type 0
 AreHeadedByUnits = (has_donl : Bool) (don : ℕ) (first : List ℕ) (units : List (List ℕ)) →
     IsLowestHeader (first ∷ units) (slice_index (own_aggregate has_donl don (first ∷ units)) 0)
     (slice_index (own_aggregate has_donl don (first ∷ units)) 1)
+
+-- whether a unit is a slice segment (VCL, types 0 to 31)
+abbrev pub is_slice : List ℕ → Bool
+is_slice [] = false
+is_slice (high ∷ unit) = nat_lt (type_of high) 32

@@ -20,6 +20,7 @@ mod cases;
 mod codec;
 mod depacketizer;
 mod detect;
+mod every;
 pub mod laws;
 mod lowest_header;
 mod packet;
@@ -32,7 +33,9 @@ pub use codec::H265;
 pub use depacketizer::H265Depacketizer;
 pub use detect::detect_h265_keyframe;
 pub use h26x_core::ANNEXB_NALUSTART_CODE;
-pub use h26x_packetizer::{BufferMemory, BufferPackets, PacketBuffer};
+pub use h26x_packetizer::{
+    BufferMemory, BufferPackets, EveryUnitError, PacketBuffer, Packing, RefusedUnit, WhyRefused,
+};
 pub use h265_packets::{
     H265AggregationPacket, H265AggregationUnit, H265AggregationUnitFirst,
     H265FragmentationUnitPacket, H265PACIPacket, H265Payload, H265SingleNALUnitPacket,

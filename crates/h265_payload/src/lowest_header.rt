@@ -1,7 +1,8 @@
 //! The header of an aggregation packet by its units (RFC 7798, 4.4.2).
 
-ghost use Rattle.std.specs.Prelude.{◌≡◌, ◌+◌, ◌*◌, ◌<◌, ◌≤◌, ◌∷◌, ◌||◌, nat_le, min, drop, length, slice_index, None, IfSome};
+ghost use Rattle.std.specs.Prelude.{◌≡◌, ◌+◌, ◌*◌, ◌<◌, ◌≤◌, ◌∷◌, ◌||◌, ◌/◌, ◌%◌, false, nat_le, min, drop, length, slice_index, None, IfSome};
 ghost use Rattle.std.specs.List.{list_any};
+ghost use Rattle.h26x_core.specs.Word.{flag};
 ghost use Rattle.h26x_core.specs.H265Unit.{type_of};
 ghost use Rattle.h265_payload.specs.Shown.{units_in};
 ghost use Rattle.h265_payload.specs.LowestHeader as spec;
@@ -15,10 +16,10 @@ use h26x_depacketizer::Aggregate;
 /// What units have in common with the header of their aggregate: F where one has it, and the lowest
 /// layer and temporal id.
 #[derive(Clone, Copy)]
-struct Lowest {
-    forbidden: bool,
-    layer: u8,
-    temporal: u8,
+pub struct Lowest {
+    pub forbidden: bool,
+    pub layer: u8,
+    pub temporal: u8,
 }
 
 /// Whether F is set.
@@ -48,8 +49,33 @@ fn temporal(unit: &[u8]) -> u8
 }
 
 impl Lowest {
+    /// What no unit has: nothing is lower with one more.
+    pub(crate) fn of_none() -> Lowest
+        ensures forbidden { result.forbidden ≡ false }
+        ensures layer { result.layer ≡ 63 }
+        ensures temporal { result.temporal ≡ 7 }
+    {
+        Lowest {
+            forbidden: false,
+            layer: 63,
+            temporal: 7,
+        }
+    }
+
+    /// The header of an aggregate of units that have it.
+    pub(crate) fn header(self) -> (u8, u8)
+        requires layer { self.layer ≤ 63 }
+        requires temporal { self.temporal ≤ 7 }
+        ensures high { result.0 ≡ flag self.forbidden 0x80 + 48 * 2 + self.layer / 32 }
+        ensures low { result.1 ≡ self.layer % 32 * 8 + self.temporal }
+    {
+        let forbidden = if self.forbidden { 0x80 } else { 0 };
+        let high = forbidden + AGGREGATION_PACKET * 2 + self.layer / 32;
+        (high, self.layer % 32 * 8 + self.temporal)
+    }
+
     /// The same with one unit more.
-    fn with(self, unit: &[u8]) -> Lowest
+    pub(crate) fn with(self, unit: &[u8]) -> Lowest
         ensures forbidden { result.forbidden
             ≡ (self.forbidden || spec.has_forbidden_bit unit.now) }
         ensures layer { result.layer ≡ min self.layer (spec.layer_of unit.now) }
@@ -72,11 +98,7 @@ fn lowest_of(codec: H265, bytes: &[u8]) -> Lowest
     ensures few { result.layer ≤ 63 }
     ensures few_temporal { result.temporal ≤ 7 }
 {
-    let mut lowest = Lowest {
-        forbidden: false,
-        layer: 63,
-        temporal: 7,
-    };
+    let mut lowest = Lowest::of_none();
     let mut rest = bytes;
     while let Some((unit, behind)) = codec.first_unit(rest) {
         lowest = lowest.with(unit);
@@ -111,10 +133,7 @@ fn lowest_header(has_donl: bool, packet: &[u8]) -> Option<(u8, u8)>
     if !has_two_units(codec, bytes) {
         return None;
     }
-    let lowest = lowest_of(codec, bytes);
-    let forbidden = if lowest.forbidden { 0x80 } else { 0 };
-    let high = forbidden + AGGREGATION_PACKET * 2 + lowest.layer / 32;
-    Some((high, lowest.layer % 32 * 8 + lowest.temporal))
+    Some(lowest_of(codec, bytes).header())
 }
 
 /// Gives an aggregation packet the header that RFC 7798, 4.4.2 asks for: F where a unit in it has it,

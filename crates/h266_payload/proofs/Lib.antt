@@ -6,3 +6,4 @@ pub mod ReadingLemmas
 pub mod JudgedLemmas
 pub mod LowestLemmas
 pub mod EveryLemmas
+pub mod LeastLemmas

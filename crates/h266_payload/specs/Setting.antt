@@ -1,7 +1,8 @@
 -- A packetizer's setting, for the contracts of other crates.
-use Rattle.std.specs.Prelude.{Bool}
+use Rattle.std.specs.Prelude.{ℕ, Bool, List}
 use Rattle.h26x_model.specs.Payload.Format.{Format}
 use Rattle.h266_payload.specs.H266.{h266}
+use Rattle.h266_payload.specs.EveryUnit.{own_aggregate}
 use Rattle.h266_payload.specs.declared.codec.H266.{H266}
 
 -- the setting with decoding order numbers or without
@@ -11,3 +12,7 @@ setting has_donl = record { has_donl = has_donl }
 -- the format of packets with this setting
 abbrev pub setting_format : H266 → Format
 setting_format codec = h266 codec.has_donl
+
+-- an aggregate of units with this setting
+abbrev pub setting_aggregate : H266 → ℕ → List (List ℕ) → List ℕ
+setting_aggregate codec = own_aggregate codec.has_donl

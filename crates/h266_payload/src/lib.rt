@@ -19,6 +19,7 @@ mod cases;
 mod codec;
 mod depacketizer;
 mod detect;
+mod every;
 pub mod laws;
 mod packet;
 mod packetizer;
@@ -27,5 +28,7 @@ pub use codec::H266;
 pub use depacketizer::H266Depacketizer;
 pub use detect::detect_h266_keyframe;
 pub use h26x_core::ANNEXB_NALUSTART_CODE;
-pub use h26x_packetizer::{BufferMemory, BufferPackets, PacketBuffer};
+pub use h26x_packetizer::{
+    BufferMemory, BufferPackets, EveryUnitError, PacketBuffer, Packing, RefusedUnit, WhyRefused,
+};
 pub use packetizer::H266Packetizer;

@@ -38,21 +38,21 @@ use h26x_payload::{DonlFormat, PayloadFormat, Sets, UnitKind};
 pub type H266Packetizer = PayloadPacketizer<H266>;
 
 /// Whether F is set.
-fn is_forbidden(unit: &[u8]) -> bool
+pub(crate) fn is_forbidden(unit: &[u8]) -> bool
     ensures { result ≡ spec.has_forbidden_bit unit.now }
 {
     !unit.is_empty() && unit[0] >> 7 == 1
 }
 
 /// The layer of a unit.
-fn layer(unit: &[u8]) -> u8
+pub(crate) fn layer(unit: &[u8]) -> u8
     ensures { result ≡ spec.layer_of unit.now }
 {
     if unit.is_empty() { 0 } else { unit[0] & 0x3f }
 }
 
 /// The temporal id of a unit.
-fn temporal(unit: &[u8]) -> u8
+pub(crate) fn temporal(unit: &[u8]) -> u8
     ensures { result ≡ spec.temporal_of unit.now }
 {
     if unit.len() < 2 { 0 } else { unit[1] & 7 }

@@ -1,6 +1,18 @@
 -- A packetizer of one of the codecs.
-use Rattle.std.specs.Prelude.{◌≡◌, ℕ, Bool}
+use Rattle.std.specs.Prelude.{◌≡◌, ℕ, Bool, List, Option}
 use Rattle.h26x_model.specs.Send.PacketizerState.{PacketizerState}
+use Rattle.h26x_model.specs.Payload.Format.{Format}
+use Rattle.h26x_model.specs.Send.Calls.{packet_limit}
+use Rattle.h26x_model.specs.Send.Every.{with_own_aggregates}
+use Rattle.h26x_packetizer.specs.EveryView.{state_every_packets}
+use Rattle.h26x_packetizer.specs.Group.{may_share}
+use Rattle.h26x_packetizer.specs.Refusal.{units_refusal}
+use Rattle.h26x_packetizer.specs.declared.packing.Packing.{Packing}
+use Rattle.h26x_packetizer.specs.declared.refusal.RefusedUnit.{RefusedUnit}
+use Rattle.h264_payload.specs.EveryUnit.{h264_every}
+use Rattle.h264_payload.specs.EveryUnit as h264_unit
+use Rattle.h265_payload.specs.EveryUnit as h265_unit
+use Rattle.h266_payload.specs.EveryUnit as h266_unit
 use Rattle.h26x_packetizer.specs.PacketizerView.{packetizer_state}
 use Rattle.h26x_packetizer.specs.Placement.{if_placed}
 use Rattle.h26x_packetizer.specs.declared.placement.Placement.{Placement}
@@ -43,3 +55,28 @@ abbrev pub IsBehindPlaced : Placement → (PacketizerState → PacketizerState) 
     AnyPacketizer → Type 0
 IsBehindPlaced made after old new = any_packetizer_state new
     ≡ if_placed made (after (any_packetizer_state old)) (any_packetizer_state old)
+
+-- its format where every unit goes
+abbrev pub any_every_format : AnyPacketizer → Format
+any_every_format (s.H264 it) = h264_every
+any_every_format (s.H265 it) = with_own_aggregates (h265_setting.setting_format it.codec)
+    (h265_setting.setting_aggregate it.codec)
+any_every_format (s.H266 it) = with_own_aggregates (h266_setting.setting_format it.codec)
+    (h266_setting.setting_aggregate it.codec)
+
+-- whether a unit is a slice to it
+abbrev pub any_is_slice : AnyPacketizer → List ℕ → Bool
+any_is_slice (s.H264 it) = h264_unit.is_slice
+any_is_slice (s.H265 it) = h265_unit.is_slice
+any_is_slice (s.H266 it) = h266_unit.is_slice
+
+-- the packets of units, none of which is left out
+abbrev pub any_every_packets : Packing → AnyPacketizer → ℕ → List (List ℕ) → List (List ℕ)
+any_every_packets packing it mtu units = state_every_packets (any_every_format it)
+    (may_share packing (any_is_slice it)) (any_packetizer_state it) mtu units
+
+-- the first of the units that can't go
+abbrev pub any_units_refusal : Packing → AnyPacketizer → ℕ → List (List ℕ) → Option RefusedUnit
+any_units_refusal packing it mtu units = units_refusal (any_packetizer_state it).format packing
+    (packet_limit (any_packetizer_state it).format (any_packetizer_state it).max_packet_size mtu)
+    0 units

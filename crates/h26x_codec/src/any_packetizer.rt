@@ -1,15 +1,18 @@
 //! A packetizer of one of the codecs, chosen when it is made.
 
-ghost use Rattle.std.specs.Prelude.{◌≡◌, ◌≤◌, [], true, false, Err, IfOk, OnOk, OnErr, IsOk};
+ghost use Rattle.std.specs.Prelude.{◌≡◌, ◌≤◌, [], true, false, Some, None, Err, IfOk, OnOk, OnErr, IsOk};
 ghost use Rattle.h26x_model.specs.Send.PacketizerState.{next_packets, after_payload, payload_has_no_effect, one_unit_items, one_unit_packets, after_one_unit};
 ghost use Rattle.h26x_packetizer.specs.Buffer.{with_packets, with_memory, IsMemoryWith};
+ghost use Rattle.h26x_packetizer.specs.EveryView.{after_units};
+ghost use Rattle.h26x_packetizer.specs.Group.{lent_units};
+ghost use Rattle.h26x_packetizer.specs.Sending.{contents};
 ghost use Rattle.h26x_packetizer.specs.Placement.{IsPlacement, IsSizeOf, is_placed};
 ghost use Rattle.h26x_codec.specs.Codec.{codec_format, fresh_packetizer_state};
-ghost use Rattle.h26x_codec.specs.AnyPacketizer.{any_packetizer_state, any_packetizer_codec, any_packetizer_with_donl, any_packetizer_with_max_packet_size, IsBehindPlaced};
+ghost use Rattle.h26x_codec.specs.AnyPacketizer.{any_packetizer_state, any_packetizer_codec, any_packetizer_with_donl, any_packetizer_with_max_packet_size, IsBehindPlaced, any_every_packets, any_units_refusal};
 
 use crate::codec::Codec;
 use h26x_core::PacketError;
-use h26x_packetizer::{PacketBuffer, PacketsSize, Placement};
+use h26x_packetizer::{EveryUnitError, PacketBuffer, PacketsSize, Packing, Placement, RefusedUnit};
 use h264_payload::H264Packetizer;
 use h265_payload::H265Packetizer;
 use h266_payload::H266Packetizer;
@@ -142,6 +145,63 @@ impl AnyPacketizer {
             AnyPacketizer::H264(it) => it.packetize_unit_into(mtu, unit, into),
             AnyPacketizer::H265(it) => it.packetize_unit_into(mtu, unit, into),
             AnyPacketizer::H266(it) => it.packetize_unit_into(mtu, unit, into),
+        }
+    }
+
+    /// The packets of the units of one access unit, none of which is left out, in order and as they
+    /// are. The first that can't go is named, and nothing is sent then.
+    pub fn packetize_units<'a>(
+        &mut self,
+        packing: Packing,
+        mtu: usize,
+        units: &'a [&'a [u8]],
+    ) -> Result<Vec<Vec<u8>>, EveryUnitError>
+        ensures packets { IfOk result (λ made. contents made.items
+            ≡ any_every_packets packing self.old mtu (lent_units units.now)) }
+        ensures after { OnOk result (any_packetizer_state self.new
+            ≡ after_units (any_packetizer_state self.old) (lent_units units.now)) }
+        ensures codec { any_packetizer_codec self.new ≡ any_packetizer_codec self.old }
+        ensures kept { OnErr result (self.new ≡ self.old) }
+        ensures refused { (unit : RefusedUnit) →
+            any_units_refusal packing self.old mtu (lent_units units.now) ≡ Some unit →
+            result ≡ Err (EveryUnitError.Unit unit) }
+        ensures memory { any_units_refusal packing self.old mtu (lent_units units.now) ≡ None →
+            OnErr result (result ≡ Err EveryUnitError.OutOfMemory) }
+    {
+        match self {
+            AnyPacketizer::H264(it) => it.packetize_units(packing, mtu, units),
+            AnyPacketizer::H265(it) => it.packetize_units(packing, mtu, units),
+            AnyPacketizer::H266(it) => it.packetize_units(packing, mtu, units),
+        }
+    }
+
+    /// Appends the packets of units to a buffer; a refusal leaves those that stood there.
+    pub fn packetize_units_into<'a>(
+        &mut self,
+        packing: Packing,
+        mtu: usize,
+        units: &'a [&'a [u8]],
+        into: &mut PacketBuffer,
+    ) -> Result<(), EveryUnitError>
+        ensures packets { OnOk result (into.new ≡ with_packets into.old
+            (any_every_packets packing self.old mtu (lent_units units.now)) into.new.memory) }
+        ensures bounded { OnOk result (IsMemoryWith into.old
+            (any_every_packets packing self.old mtu (lent_units units.now)) into.new.memory) }
+        ensures kept_packets { OnErr result (into.new ≡ with_memory into.old into.new.memory) }
+        ensures after { OnOk result (any_packetizer_state self.new
+            ≡ after_units (any_packetizer_state self.old) (lent_units units.now)) }
+        ensures codec { any_packetizer_codec self.new ≡ any_packetizer_codec self.old }
+        ensures kept { OnErr result (self.new ≡ self.old) }
+        ensures refused { (unit : RefusedUnit) →
+            any_units_refusal packing self.old mtu (lent_units units.now) ≡ Some unit →
+            result ≡ Err (EveryUnitError.Unit unit) }
+        ensures memory { any_units_refusal packing self.old mtu (lent_units units.now) ≡ None →
+            OnErr result (result ≡ Err EveryUnitError.OutOfMemory) }
+    {
+        match self {
+            AnyPacketizer::H264(it) => it.packetize_units_into(packing, mtu, units, into),
+            AnyPacketizer::H265(it) => it.packetize_units_into(packing, mtu, units, into),
+            AnyPacketizer::H266(it) => it.packetize_units_into(packing, mtu, units, into),
         }
     }
 

@@ -20,4 +20,6 @@ pub use any_depacketizer::AnyDepacketizer;
 pub use any_packetizer::AnyPacketizer;
 pub use any_payload_depacketizer::AnyPayloadDepacketizer;
 pub use codec::Codec;
-pub use h26x_packetizer::{BufferMemory, BufferPackets, PacketBuffer};
+pub use h26x_packetizer::{
+    BufferMemory, BufferPackets, EveryUnitError, PacketBuffer, Packing, RefusedUnit, WhyRefused,
+};

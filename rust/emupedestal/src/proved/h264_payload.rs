@@ -3,12 +3,15 @@
 mod codec;
 mod depacketizer;
 mod detect;
+mod every;
 mod packet;
 mod packetizer;
 mod stap;
 
 pub use crate::proved::h26x_core::ANNEXB_NALUSTART_CODE;
-pub use crate::proved::h26x_packetizer::{BufferMemory, BufferPackets, PacketBuffer};
+pub use crate::proved::h26x_packetizer::{
+    BufferMemory, BufferPackets, EveryUnitError, PacketBuffer, Packing, RefusedUnit, WhyRefused,
+};
 pub use codec::H264;
 pub use depacketizer::H264Depacketizer;
 pub use detect::{detect_h264_keyframe, detect_h264_nalu};

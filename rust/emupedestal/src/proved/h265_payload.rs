@@ -7,6 +7,7 @@ mod aggregate;
 mod codec;
 mod depacketizer;
 mod detect;
+mod every;
 mod lowest_header;
 mod packet;
 mod packetizer;
@@ -15,7 +16,9 @@ mod shows;
 mod spare;
 
 pub use crate::proved::h26x_core::ANNEXB_NALUSTART_CODE;
-pub use crate::proved::h26x_packetizer::{BufferMemory, BufferPackets, PacketBuffer};
+pub use crate::proved::h26x_packetizer::{
+    BufferMemory, BufferPackets, EveryUnitError, PacketBuffer, Packing, RefusedUnit, WhyRefused,
+};
 pub use crate::proved::h265_packets::{
     H265AggregationPacket, H265AggregationUnit, H265AggregationUnitFirst,
     H265FragmentationUnitPacket, H265PACIPacket, H265Payload, H265SingleNALUnitPacket,

@@ -6,11 +6,14 @@ mod aggregate;
 mod codec;
 mod depacketizer;
 mod detect;
+mod every;
 mod packet;
 mod packetizer;
 
 pub use crate::proved::h26x_core::ANNEXB_NALUSTART_CODE;
-pub use crate::proved::h26x_packetizer::{BufferMemory, BufferPackets, PacketBuffer};
+pub use crate::proved::h26x_packetizer::{
+    BufferMemory, BufferPackets, EveryUnitError, PacketBuffer, Packing, RefusedUnit, WhyRefused,
+};
 pub use codec::H266;
 pub use depacketizer::H266Depacketizer;
 pub use detect::detect_h266_keyframe;

@@ -8,7 +8,9 @@ mod any_payload_depacketizer;
 mod codec;
 mod plain;
 
-pub use crate::proved::h26x_packetizer::{BufferMemory, BufferPackets, PacketBuffer};
+pub use crate::proved::h26x_packetizer::{
+    BufferMemory, BufferPackets, EveryUnitError, PacketBuffer, Packing, RefusedUnit, WhyRefused,
+};
 pub use any_depacketizer::AnyDepacketizer;
 pub use any_packetizer::AnyPacketizer;
 pub use any_payload_depacketizer::AnyPayloadDepacketizer;

@@ -7,6 +7,7 @@ mod boxes;
 mod buffers;
 mod codec;
 mod cut;
+mod every_unit;
 mod network;
 mod packets;
 mod profiles;

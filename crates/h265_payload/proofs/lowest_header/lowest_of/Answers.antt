@@ -9,4 +9,6 @@ pub loop-unit-init : goal.loop-unit-init
 loop-unit-init c =
     let layer = lowest_most 63 layer_of (units_in c.args.codec.has_donl c.args.bytes.now) in
     let temporal = lowest_most 7 temporal_of (units_in c.args.codec.has_donl c.args.bytes.now) in
-    record { forbidden = search rules; layer = omega (arith, layer); temporal = omega (arith, temporal); few = omega arith; few_temporal = omega arith }
+    let first = c.of_none-lowest.ensures.layer in
+    let first_temporal = c.of_none-lowest.ensures.temporal in
+    record { forbidden = search rules; layer = omega (arith, layer, first); temporal = omega (arith, temporal, first_temporal); few = omega (arith, first); few_temporal = omega (arith, first_temporal) }

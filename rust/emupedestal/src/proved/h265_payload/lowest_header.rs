@@ -9,10 +9,10 @@ use crate::proved::h265_payload::codec::{H265, header_of};
 /// What units have in common with the header of their aggregate: F where one has it, and the lowest
 /// layer and temporal id.
 #[derive(Clone, Copy)]
-struct Lowest {
-    forbidden: bool,
-    layer: u8,
-    temporal: u8,
+pub struct Lowest {
+    pub forbidden: bool,
+    pub layer: u8,
+    pub temporal: u8,
 }
 
 /// Whether F is set.
@@ -34,8 +34,24 @@ fn temporal(unit: &[u8]) -> u8 {
 }
 
 impl Lowest {
+    /// What no unit has: nothing is lower with one more.
+    pub(crate) fn of_none() -> Lowest {
+        Lowest {
+            forbidden: false,
+            layer: 63,
+            temporal: 7,
+        }
+    }
+
+    /// The header of an aggregate of units that have it.
+    pub(crate) fn header(self) -> (u8, u8) {
+        let forbidden = if self.forbidden { 0x80 } else { 0 };
+        let high = forbidden + AGGREGATION_PACKET * 2 + self.layer / 32;
+        (high, self.layer % 32 * 8 + self.temporal)
+    }
+
     /// The same with one unit more.
-    fn with(self, unit: &[u8]) -> Lowest {
+    pub(crate) fn with(self, unit: &[u8]) -> Lowest {
         Lowest {
             forbidden: self.forbidden || is_forbidden(unit),
             layer: self.layer.min(layer(unit)),
@@ -46,11 +62,7 @@ impl Lowest {
 
 /// What all units of an aggregate's bytes have.
 fn lowest_of(codec: H265, bytes: &[u8]) -> Lowest {
-    let mut lowest = Lowest {
-        forbidden: false,
-        layer: 63,
-        temporal: 7,
-    };
+    let mut lowest = Lowest::of_none();
     let mut rest = bytes;
     while let Some((unit, behind)) = codec.first_unit(rest) {
         lowest = lowest.with(unit);
@@ -78,10 +90,7 @@ fn lowest_header(has_donl: bool, packet: &[u8]) -> Option<(u8, u8)> {
     if !has_two_units(codec, bytes) {
         return None;
     }
-    let lowest = lowest_of(codec, bytes);
-    let forbidden = if lowest.forbidden { 0x80 } else { 0 };
-    let high = forbidden + AGGREGATION_PACKET * 2 + lowest.layer / 32;
-    Some((high, lowest.layer % 32 * 8 + lowest.temporal))
+    Some(lowest_of(codec, bytes).header())
 }
 
 /// Gives an aggregation packet the header that RFC 7798, 4.4.2 asks for: F where a unit in it has it,

@@ -27,17 +27,17 @@ use crate::proved::h266_payload::codec::{H266, header_of, with_type};
 pub type H266Packetizer = PayloadPacketizer<H266>;
 
 /// Whether F is set.
-fn is_forbidden(unit: &[u8]) -> bool {
+pub(crate) fn is_forbidden(unit: &[u8]) -> bool {
     !unit.is_empty() && unit[0] >> 7 == 1
 }
 
 /// The layer of a unit.
-fn layer(unit: &[u8]) -> u8 {
+pub(crate) fn layer(unit: &[u8]) -> u8 {
     if unit.is_empty() { 0 } else { unit[0] & 0x3f }
 }
 
 /// The temporal id of a unit.
-fn temporal(unit: &[u8]) -> u8 {
+pub(crate) fn temporal(unit: &[u8]) -> u8 {
     if unit.len() < 2 { 0 } else { unit[1] & 7 }
 }
 

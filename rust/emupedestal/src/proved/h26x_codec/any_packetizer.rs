@@ -4,10 +4,13 @@
 
 use crate::proved::h26x_codec::codec::Codec;
 use crate::proved::h26x_core::PacketError;
-use crate::proved::h26x_packetizer::{PacketBuffer, PacketsSize, Placement};
+use crate::proved::h26x_packetizer::{
+    EveryUnitError, PacketBuffer, PacketsSize, Packing, Placement,
+};
 use crate::proved::h264_payload::H264Packetizer;
 use crate::proved::h265_payload::H265Packetizer;
 use crate::proved::h266_payload::H266Packetizer;
+use alloc::vec::Vec;
 
 /// A packetizer of one of the codecs, chosen when it is made, which may go from thread to thread.
 /// Every call goes to the one that it holds.
@@ -98,6 +101,36 @@ impl AnyPacketizer {
             AnyPacketizer::H264(it) => it.packetize_unit_into(mtu, unit, into),
             AnyPacketizer::H265(it) => it.packetize_unit_into(mtu, unit, into),
             AnyPacketizer::H266(it) => it.packetize_unit_into(mtu, unit, into),
+        }
+    }
+
+    /// The packets of the units of one access unit, none of which is left out, in order and as they
+    /// are. The first that can't go is named, and nothing is sent then.
+    pub fn packetize_units<'a>(
+        &mut self,
+        packing: Packing,
+        mtu: usize,
+        units: &'a [&'a [u8]],
+    ) -> Result<Vec<Vec<u8>>, EveryUnitError> {
+        match self {
+            AnyPacketizer::H264(it) => it.packetize_units(packing, mtu, units),
+            AnyPacketizer::H265(it) => it.packetize_units(packing, mtu, units),
+            AnyPacketizer::H266(it) => it.packetize_units(packing, mtu, units),
+        }
+    }
+
+    /// Appends the packets of units to a buffer; a refusal leaves those that stood there.
+    pub fn packetize_units_into<'a>(
+        &mut self,
+        packing: Packing,
+        mtu: usize,
+        units: &'a [&'a [u8]],
+        into: &mut PacketBuffer,
+    ) -> Result<(), EveryUnitError> {
+        match self {
+            AnyPacketizer::H264(it) => it.packetize_units_into(packing, mtu, units, into),
+            AnyPacketizer::H265(it) => it.packetize_units_into(packing, mtu, units, into),
+            AnyPacketizer::H266(it) => it.packetize_units_into(packing, mtu, units, into),
         }
     }
 
