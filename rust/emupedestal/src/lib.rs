@@ -3,7 +3,7 @@
 //!
 //! A packetizer cuts encoded video into RTP payloads within a limit, and a depacketizer puts the
 //! units together again, whatever packets a stranger sends. The traits and types are those of str0m's
-//! payload layer. RTP's own header is the caller's.
+//! payload layer. RTP's header, retransmissions (RTX) and redundant payloads (RED) are read and written by [`rtp`].
 //!
 //! ```
 //! use emupedestal::{CodecExtra, Depacketizer, H264Depacketizer, H264Packetizer, Packetizer};
@@ -133,6 +133,7 @@ mod profile;
 #[allow(clippy::needless_range_loop, clippy::nonminimal_bool)]
 #[allow(clippy::ptr_arg, clippy::question_mark)]
 mod proved;
+pub mod rtp;
 #[cfg(feature = "sdp")]
 pub mod sdp;
 mod sequenced;

@@ -19,6 +19,7 @@ pub mod h26x_payload;
 pub mod h26x_profile;
 pub mod h26x_receiver;
 pub mod h26x_reorder;
+pub mod h26x_rtp;
 #[cfg(feature = "sdp")]
 pub mod h26x_sdp;
 #[cfg(feature = "sdp")]

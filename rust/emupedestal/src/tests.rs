@@ -16,6 +16,7 @@ mod profile;
 mod proved;
 mod quiet;
 mod refusals;
+mod rtp;
 #[cfg(feature = "sdp")]
 mod sdp;
 #[cfg(feature = "sdp")]

@@ -1,0 +1,145 @@
+// Made from crates/h26x_rtp/src/elements.rt by tools/to-rust.
+
+//! The elements of header extensions (RFC 8285).
+
+use crate::proved::h26x_rtp::header::RtpExtension;
+
+/// The form of the elements of a header extension (RFC 8285, 4.2 and 4.3).
+#[derive(Debug, Clone, Copy, PartialEq, Eq)]
+pub enum ElementForm {
+    /// Behind a byte of id and length: ids 1 to 14, 1 to 16 bytes.
+    OneByte,
+    /// Behind a byte of id and one of length: ids 1 to 255, at most 255 bytes.
+    TwoBytes,
+}
+
+/// An element of a header extension (RFC 8285, 4.1).
+#[derive(Clone, Copy, PartialEq, Eq)]
+pub struct RtpElement<'a> {
+    /// Its local identifier, which an `a=extmap` line of SDP says the meaning of.
+    pub id: u8,
+    /// Its bytes.
+    pub bytes: &'a [u8],
+}
+
+/// Of bytes it tells how many there are.
+impl<'a> core::fmt::Debug for RtpElement<'a> {
+    fn fmt(&self, f: &mut core::fmt::Formatter<'_>) -> core::fmt::Result {
+        use crate::support::Count;
+        f.debug_struct("RtpElement")
+            .field("id", &self.id)
+            .field("bytes", &Count(self.bytes.len()))
+            .finish()
+    }
+}
+
+/// The elements of a header extension that are left, in their order (RFC 8285, 4.1).
+pub struct RtpElements<'a> {
+    form: ElementForm,
+    rest: &'a [u8],
+}
+
+/// Of bytes it tells how many there are.
+impl<'a> core::fmt::Debug for RtpElements<'a> {
+    fn fmt(&self, f: &mut core::fmt::Formatter<'_>) -> core::fmt::Result {
+        use crate::support::Count;
+        f.debug_struct("RtpElements")
+            .field("form", &self.form)
+            .field("rest", &Count(self.rest.len()))
+            .finish()
+    }
+}
+
+/// The form that a profile says, if it says one.
+fn form_of(profile: u16) -> Option<ElementForm> {
+    if profile == 0xbede {
+        Some(ElementForm::OneByte)
+    } else if profile >> 4 == 0x100 {
+        Some(ElementForm::TwoBytes)
+    } else {
+        None
+    }
+}
+
+/// Bytes without the padding before them (RFC 8285, 4.1.2).
+fn without_padding(_form: ElementForm, bytes: &[u8]) -> &[u8] {
+    for (place, byte) in bytes.iter().enumerate() {
+        if *byte != 0 {
+            return &bytes[place..];
+        }
+    }
+    &[]
+}
+
+/// How many bytes an element has in the form of one byte (RFC 8285, 4.2).
+fn short_size(byte: u8) -> usize {
+    usize::from(byte & 0x0f) + 1
+}
+
+/// Whether a first byte ends the elements in the form of one byte: by an id of 15, or of 0 where it
+/// is no padding (RFC 8285, 4.2).
+fn ends_short(byte: u8) -> bool {
+    byte >> 4 == 0 || byte >> 4 == 15
+}
+
+/// The first element in the form of one byte, and what stands behind it.
+fn first_short(bytes: &[u8]) -> Option<(RtpElement<'_>, &[u8])> {
+    if bytes.is_empty() {
+        return None;
+    }
+    let (_, rest) = bytes.split_at(1);
+    let id = bytes[0] >> 4;
+    let size = short_size(bytes[0]);
+    if ends_short(bytes[0]) || rest.len() < size {
+        return None;
+    }
+    let (bytes, rest) = rest.split_at(size);
+    Some((RtpElement { id, bytes }, rest))
+}
+
+/// The first element in the form of two bytes, and what stands behind it.
+fn first_long(bytes: &[u8]) -> Option<(RtpElement<'_>, &[u8])> {
+    if bytes.len() < 2 {
+        return None;
+    }
+    let (_, rest) = bytes.split_at(2);
+    let id = bytes[0];
+    let size = usize::from(bytes[1]);
+    if rest.len() < size {
+        return None;
+    }
+    let (bytes, rest) = rest.split_at(size);
+    Some((RtpElement { id, bytes }, rest))
+}
+
+impl<'a> RtpExtension<'a> {
+    /// Its elements, in their order: none where its profile says no form of elements. In the form of
+    /// one byte they end before an id of 15, and in both before one that passes the end (RFC 8285,
+    /// 4.2 and 4.3).
+    pub fn elements(self) -> RtpElements<'a> {
+        match form_of(self.profile) {
+            Some(form) => RtpElements {
+                form,
+                rest: self.bytes,
+            },
+            None => RtpElements {
+                form: ElementForm::OneByte,
+                rest: &[],
+            },
+        }
+    }
+}
+
+impl<'a> Iterator for RtpElements<'a> {
+    type Item = RtpElement<'a>;
+
+    fn next(&mut self) -> Option<RtpElement<'a>> {
+        let bytes = without_padding(self.form, self.rest);
+        let (element, rest) = match self.form {
+            ElementForm::OneByte => first_short(bytes)?,
+            ElementForm::TwoBytes => first_long(bytes)?,
+        };
+        self.rest = rest;
+        Some(element)
+    }
+}

@@ -1,0 +1,42 @@
+//! What stands round a payload: RTP's header (RFC 3550), the elements of header extensions (RFC 8285), retransmissions
+//! (RTX, RFC 4588) and redundant payloads (RED, RFC 2198). Nothing takes memory: what is read is borrowed, and what is
+//! written goes to memory of the caller.
+//!
+//! ```
+//! use emupedestal::rtp::{RedPayload, RtpDatagram, RtpHeader, is_rtcp};
+//!
+//! let header = RtpHeader {
+//!     marker: true,
+//!     payload_type: 96,
+//!     sequence: 7,
+//!     timestamp: 90_000,
+//!     ssrc: 1,
+//!     csrcs: &[],
+//!     extension: None,
+//! };
+//! let sent = RtpDatagram { header, payload: &[0x65, 0x88, 0x84], padding: &[] };
+//! let mut datagram = [0; 1500];
+//! let len = sent.write(&mut datagram)?;
+//! assert!(!is_rtcp(&datagram[..len])); // ask first: RTCP may share the port
+//! assert_eq!(RtpDatagram::read(&datagram[..len])?, sent);
+//!
+//! // The same sent again, as payload type 97 with SSRC 2 and a number of its own, and what it bears.
+//! let len = sent.write_rtx(97, 500, 2, &mut datagram)?;
+//! let resent = RtpDatagram::read(&datagram[..len])?;
+//! assert_eq!((resent.header.sequence, resent.payload[..2].to_vec()), (500, vec![0, 7]));
+//! assert_eq!(resent.original(96, 1), Some(sent));
+//!
+//! // A block of payload type 120, which is 90 ticks older, before a primary one of payload type 96.
+//! let redundant = RedPayload::read(&[0x80 | 120, 0x01, 0x68, 2, 96, 0xaa, 0xbb, 0x41])?;
+//! assert_eq!((redundant.payload_type, redundant.primary), (96, &[0x41][..]));
+//! let blocks: Vec<(u8, u16)> = redundant.blocks.map(|it| (it.payload_type, it.timestamp_offset)).collect();
+//! assert_eq!(blocks, [(120, 90)]);
+//! # Ok::<(), Box<dyn std::error::Error>>(())
+//! ```
+//!
+//! Encrypted packets (SRTP) are read as any others: only their headers make sense.
+
+pub use crate::proved::h26x_rtp::{ElementForm, RtpElement, RtpElements};
+pub use crate::proved::h26x_rtp::{RedBlock, RedBlocks, RedError, RedPayload, write_red};
+pub use crate::proved::h26x_rtp::{RtpDatagram, RtpError, RtpExtension, RtpHeader, RtpWriteError};
+pub use crate::proved::h26x_rtp::{RtxPayload, is_rtcp};
