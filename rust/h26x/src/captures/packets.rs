@@ -50,6 +50,8 @@ pub struct Captured<'a> {
     pub time: u64,
     /// How much of its datagram the capture has; of one that isn't whole the payload is a front.
     pub part: Part,
+    /// Whether it was sent again, in a packet of RTX.
+    pub is_resent: bool,
     pub rtp: Rtp<'a>,
 }
 
@@ -112,7 +114,12 @@ fn each_of_datagram(
             Some(_) => Part::Whole,
             None => datagram.part,
         };
-        let packet = Captured { time, part, rtp };
+        let packet = Captured {
+            time,
+            part,
+            is_resent: false,
+            rtp,
+        };
         if take(Met::Packet(&stream, datagram.from, &packet))?.is_break() {
             return Ok(ControlFlow::Break(()));
         }

@@ -1,5 +1,6 @@
 //! The header of RTP (RFC 3550, 5.1).
 
+use emupedestal::rtp::{RtpDatagram, RtpExtension};
 use std::ops::RangeInclusive;
 
 /// The fixed part of the header, in bytes.
@@ -16,6 +17,7 @@ pub struct Rtp<'a> {
     pub sequence: u16,
     pub timestamp: u32,
     pub ssrc: u32,
+    pub extension: Option<RtpExtension<'a>>,
     pub payload: &'a [u8],
     /// How many bytes of padding stand behind the payload.
     pub padding: u8,
@@ -29,35 +31,22 @@ impl Rtp<'_> {
     }
 }
 
-/// The RTP packet of a datagram, where its header makes sense: version 2, no type of RTCP's, and
-/// contributing sources, extension and padding that fit.
+/// The RTP packet of a datagram, where its header makes sense, and its payload type is none of RTCP's.
 pub fn rtp(datagram: &[u8]) -> Option<Rtp<'_>> {
-    let (header, mut payload) = datagram.split_first_chunk::<HEADER>()?;
-    let [flags, second, ..] = *header;
-    let payload_type = second & 0x7f;
-    if flags >> 6 != 2 || RTCP.contains(&payload_type) {
-        return None;
-    }
-    payload = payload.get(usize::from(flags & 0x0f) * 4..)?;
-    if flags & 0x10 != 0 {
-        let ([_, _, high, low], extension) = payload.split_first_chunk()?;
-        payload = extension.get(usize::from(u16::from_be_bytes([*high, *low])) * 4..)?;
-    }
-    let mut padding = 0;
-    if flags & 0x20 != 0 {
-        padding = *payload.last()?;
-        let len = payload.len().checked_sub(padding.into());
-        payload = &payload[..len.filter(|_| padding > 0)?];
-    }
-    let [_, _, high, low, t0, t1, t2, t3, s0, s1, s2, s3] = *header;
-    Some(Rtp {
-        marker: second & 0x80 != 0,
-        payload_type,
-        sequence: u16::from_be_bytes([high, low]),
-        timestamp: u32::from_be_bytes([t0, t1, t2, t3]),
-        ssrc: u32::from_be_bytes([s0, s1, s2, s3]),
+    let RtpDatagram {
+        header,
         payload,
         padding,
+    } = RtpDatagram::read(datagram).ok()?;
+    (!RTCP.contains(&header.payload_type)).then_some(Rtp {
+        marker: header.marker,
+        payload_type: header.payload_type,
+        sequence: header.sequence,
+        timestamp: header.timestamp,
+        ssrc: header.ssrc,
+        extension: header.extension,
+        payload,
+        padding: padding.len() as u8,
     })
 }
 

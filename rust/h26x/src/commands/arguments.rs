@@ -14,6 +14,7 @@ use crate::output::written::Written;
 use crate::streams::chooser::Choice;
 use crate::streams::codecs::of_path;
 use crate::streams::containers::check_container;
+use crate::streams::payload_types::PayloadTypes;
 use crate::streams::seed::Drawn;
 use crate::streams::session::{self, Described};
 use emupedestal::Codec;
@@ -25,6 +26,8 @@ use std::path::{Path, PathBuf};
 const LONGEST_WINDOW: u64 = 1024;
 /// The longest wait, in milliseconds: a day.
 const MOST_WAIT: u64 = 86_400_000;
+/// How long a packet is waited for that may be sent again: some round trips.
+const RTX_WAIT: u32 = 1000;
 /// The longest time of a live stream, in seconds: a year.
 const MOST_SECONDS: f64 = 31_536_000.0;
 
@@ -75,6 +78,8 @@ pub struct Looking {
     pub run_limit: usize,
     /// Parameter sets that a session description has.
     pub sets: Vec<Vec<u8>>,
+    /// Payload types of retransmissions and redundant payloads, which are undone.
+    pub types: PayloadTypes,
     /// For how many seconds a live stream is looked at.
     pub seconds: Option<f64>,
     /// The interface on which a group is joined.
@@ -293,14 +298,22 @@ impl Words {
             choice.port = choice.port.or(it.port);
         }
         let has_donl = self.donl(choice.codec)?;
+        let types = self.payload_types(described.as_ref())?;
+        let (window, wait) = match types.has_rtx() {
+            true => (LONGEST_WINDOW as u16, RTX_WAIT),
+            false => (32, u32::MAX),
+        };
         Ok(Looking {
             choice,
             is_codec_given: codec.is_some() || described.is_some(),
             has_donl: has_donl || described.as_ref().is_some_and(|it| it.has_donl),
-            window: self.number("--window", 0, LONGEST_WINDOW)?.unwrap_or(32) as u16,
+            window: self
+                .number("--window", 0, LONGEST_WINDOW)?
+                .map_or(window, |it| it as u16),
             wait: self
                 .number("--wait", 0, MOST_WAIT)?
-                .map_or(u32::MAX, |it| it as u32),
+                .map_or(wait, |it| it as u32),
+            types,
             begin_wait: self.number("--begin-wait", 0, MOST_WAIT)?.unwrap_or(0) as u32,
             run_limit: self.number("--run-limit", 1, 1 << 30)?.unwrap_or(16 << 20) as usize,
             sets: described.map(|it| it.sets).unwrap_or_default(),
@@ -308,6 +321,22 @@ impl Words {
             interface: self.interface(&input)?,
             input,
         })
+    }
+
+    /// The payload types of a session description, and those that are given.
+    fn payload_types(&mut self, described: Option<&Described>) -> Result<PayloadTypes, Failure> {
+        let mut types = described.map(|it| it.types.clone()).unwrap_or_default();
+        if let Some(value) = self.value("--rtx") {
+            if !types.add_rtx(&value) {
+                return Err(Failure::usage(format!(
+                    "--rtx {value}: give it as 97=96, where packets of payload type 97 send those of 96 again"
+                )));
+            }
+        }
+        if let Some(payload_type) = self.number("--red", 0, 127)? {
+            types.add_red(payload_type as u8);
+        }
+        Ok(types)
     }
 
     /// How long a live stream is looked at.

@@ -9,6 +9,7 @@ use crate::output::html::Page;
 use crate::output::report::Report;
 use crate::output::standard;
 use crate::streams::chooser::{Known, Streams, choose};
+use crate::streams::originals::Originals;
 use crate::streams::reception::Reception;
 use std::io::{self, IsTerminal};
 use std::ops::ControlFlow;
@@ -23,7 +24,7 @@ pub fn inspect(asked: &Inspect) -> Result<u8, Failure> {
             save it in a file first";
         return Err(Failure::of(&looking.input, what));
     }
-    let streams = choose(&mut capture, &looking.choice)?;
+    let streams = choose(&mut capture, looking)?;
     let page = asked.html.as_ref();
     let mut page = page
         .map(|it| Page::create(it, &looking.input))
@@ -64,15 +65,17 @@ fn inspect_stream(
     if let Some(told) = known.two_senders() {
         report.two_senders(&told).map_err(printed)?;
     }
-    let mut takers = streams.takers();
+    let mut takers = streams.takers(&looking.types);
+    let mut originals = Originals::new(&looking.types);
     let passed = each_packet(capture, what(asked), |met| {
         match met {
             Met::Packet(stream, _, packet) => {
-                if takers.of(stream).contains(&place) {
-                    if *stream == known.stream {
-                        report.come(packet);
+                let (stream, packet) = originals.of(stream, packet);
+                if takers.of(&stream).contains(&place) {
+                    if stream == known.stream && !packet.is_resent {
+                        report.come(&packet);
                     }
-                    reception.take(packet, &mut |told| report.tell(&told).map_err(printed))?;
+                    reception.take(&packet, &mut |told| report.tell(&told).map_err(printed))?;
                 }
             }
             Met::Pause => report.pass_on().map_err(printed)?,

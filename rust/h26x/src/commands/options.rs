@@ -105,9 +105,20 @@ pub static GROUPS: [Group; 5] = [
             with(
                 "--sdp",
                 FILE,
-                "the stream that this session description has: its codec, payload type, port and \
-                 decoding order numbers; receive writes its parameter sets before the first \
-                 picture where the stream has none there",
+                "the stream that this session description has: its codec, payload type, port, \
+                 decoding order numbers, RTX and RED; receive writes its parameter sets before the \
+                 first picture where the stream has none there",
+            ),
+            with(
+                "--rtx",
+                "N=PT",
+                "packets of payload type N send those of PT again (RTX, RFC 4588), as 97=96: they \
+                 are put in their places",
+            ),
+            with(
+                "--red",
+                "N",
+                "packets of payload type N are redundant (RED, RFC 2198): the primary block is taken",
             ),
             flag(
                 "--all",
@@ -118,13 +129,13 @@ pub static GROUPS: [Group; 5] = [
                 "--window",
                 "N",
                 "a packet is waited for until one comes that is more than N ahead of it, 0 to \
-                 1024 (32); one that comes later is late, and is not taken",
+                 1024 (32, and with RTX 1024); one that comes later is late, and is not taken",
             ),
             with(
                 "--wait",
                 "MS",
                 "a packet is waited for so many milliseconds at most, by the times of the capture \
-                 (by the window alone)",
+                 (by the window alone, and with RTX 1000)",
             ),
             with(
                 "--begin-wait",

@@ -9,20 +9,23 @@ use crate::output::printing::say;
 use crate::output::recording::Recording;
 use crate::streams::chooser::{Known, Streams, choose};
 use crate::streams::codecs::{name, word};
+use crate::streams::originals::Originals;
 use emupedestal::Codec;
 use std::ops::ControlFlow;
 
 /// Receives, and answers the status to end with.
 pub fn receive(asked: &Receive) -> Result<u8, Failure> {
     let mut capture = Capture::open(&asked.looking)?;
-    let streams = choose(&mut capture, &asked.looking.choice)?;
+    let streams = choose(&mut capture, &asked.looking)?;
     let mut recordings = begin(asked, &streams)?;
-    let mut takers = streams.takers();
+    let mut takers = streams.takers(&asked.looking.types);
+    let mut originals = Originals::new(&asked.looking.types);
     let passed = each_packet(&mut capture, Some("receiving"), |met| {
         match met {
             Met::Packet(stream, _, packet) => {
-                for at in takers.of(stream) {
-                    recordings[*at].take(packet)?;
+                let (stream, packet) = originals.of(stream, packet);
+                for at in takers.of(&stream) {
+                    recordings[*at].take(&packet)?;
                 }
             }
             Met::Pause => recordings.iter_mut().try_for_each(Recording::pass_on)?,

@@ -170,6 +170,7 @@ impl<'a> Sender<'a> {
                 sequence: self.sequence,
                 timestamp: at(TICKS_A_SECOND) as u32,
                 ssrc: self.asked.ssrc,
+                extension: None,
                 payload: &[],
                 padding: 0,
             };

@@ -83,6 +83,19 @@ impl Feedback {
         sender.come(rtp, nanos, now);
     }
 
+    /// A stream sent a packet of another one again: that isn't missing there any more, and none of its own is asked for
+    /// (RFC 4588, 6).
+    pub fn come_again(&mut self, by: u32, of: u32, sequence: u16) {
+        for sender in &mut self.senders {
+            if sender.ssrc == by {
+                sender.missing.clear();
+                sender.wants_keyframe = false;
+            } else if sender.ssrc == of {
+                sender.missing.retain(|it| it.sequence != sequence);
+            }
+        }
+    }
+
     /// A packet of RTCP came this way.
     pub fn read(&mut self, all: &[Read], way: Way, now: Instant) {
         for read in all {
@@ -257,6 +270,7 @@ mod tests {
             sequence,
             timestamp,
             ssrc: 9,
+            extension: None,
             payload: &[0x41, 1],
             padding: 0,
         }
@@ -336,6 +350,29 @@ mod tests {
         assert_eq!(said(&mut feedback, at(260)), nack(&[5]));
         assert_eq!(said(&mut feedback, at(370)), [Read::Pli { ssrc: 9 }]);
         assert_eq!(said(&mut feedback, at(1000)), []);
+    }
+
+    /// What RTX sends again isn't missing any more, and of RTX itself nothing is asked for.
+    #[test]
+    fn packets_that_come_again() {
+        let begin = Instant::now();
+        let mut feedback = Feedback::new(7, begin);
+        come(&mut feedback, begin, &[1, 2, 4, 6]);
+        let from: SocketAddr = "192.0.2.1:5004".parse().expect("an address");
+        for sequence in [70, 72] {
+            let of_rtx = Rtp {
+                ssrc: 8,
+                ..packet(sequence, 0)
+            };
+            feedback.come(&of_rtx, from, 0, begin);
+            feedback.come_again(8, 9, 3);
+        }
+        let later = begin + PATIENCE * 2;
+        let sequences = vec![5];
+        assert_eq!(
+            said(&mut feedback, later),
+            [Read::Nack { ssrc: 9, sequences }]
+        );
     }
 
     /// A gap that is too long to be filled wants a keyframe, and once a second at most.

@@ -1,7 +1,9 @@
 //! Live streams over UDP: what comes is handed on as a capture in a pipe, packet by packet, and is answered
 //! by RTCP.
 
-use crate::captures::rtp::rtp;
+use crate::captures::ip::Part;
+use crate::captures::packets::{Captured, Stream};
+use crate::captures::rtp::{Rtp, rtp};
 use crate::commands::arguments::Looking;
 use crate::errors::Failure;
 use crate::network::address::{canonical, to_listen};
@@ -9,6 +11,7 @@ use crate::network::feedback::{Feedback, Way};
 use crate::network::rtcp;
 use crate::network::sockets::Sockets;
 use crate::output::parts;
+use crate::streams::originals::Originals;
 use crate::streams::seed::Drawn;
 use std::collections::HashMap;
 use std::fs::File;
@@ -43,6 +46,7 @@ pub fn listen(looking: &Looking) -> Result<File, Failure> {
     let begin = Instant::now();
     let mut listener = Listener {
         feedback: Feedback::new(Drawn::of(None).ssrc, begin),
+        originals: Originals::new(&looking.types),
         is_over: parts::first_signal(),
         end: looking
             .seconds
@@ -67,6 +71,7 @@ struct Listener {
     /// The address here that packets from another come to.
     ways: HashMap<IpAddr, IpAddr>,
     feedback: Feedback,
+    originals: Originals,
     is_over: Arc<AtomicBool>,
     end: Option<Instant>,
     into: BufWriter<UnixStream>,
@@ -103,14 +108,15 @@ impl Listener {
     fn take(&mut self, datagram: &[u8], from: SocketAddr) -> io::Result<()> {
         let since = SystemTime::now().duration_since(UNIX_EPOCH);
         let time = since.unwrap_or_default();
+        let (source, port) = canonical(from);
+        let to = self.address_here(source);
         if rtcp::is_rtcp(datagram) {
             self.read(datagram, true, from);
         } else if let Some(rtp) = rtp(datagram) {
             let nanos = time.as_nanos() as u64;
             self.feedback.come(&rtp, from, nanos, Instant::now());
+            self.undo(&rtp, to);
         }
-        let (source, port) = canonical(from);
-        let to = self.address_here(source);
         let frame = headers((source, port), (to, self.to.port()), datagram.len());
         let len = (frame.len() + datagram.len()) as u32;
         for word in [time.as_secs() as u32, time.subsec_nanos(), len, len] {
@@ -118,6 +124,26 @@ impl Listener {
         }
         self.into.write_all(&frame)?;
         self.into.write_all(datagram)
+    }
+
+    /// Looks whether a packet sends another one again.
+    fn undo(&mut self, rtp: &Rtp<'_>, to: IpAddr) {
+        let stream = Stream {
+            ssrc: rtp.ssrc,
+            payload_type: rtp.payload_type,
+            to: (to, self.to.port()),
+        };
+        let packet = Captured {
+            time: 0,
+            part: Part::Whole,
+            is_resent: false,
+            rtp: *rtp,
+        };
+        let (of, original) = self.originals.of(&stream, &packet);
+        if original.is_resent {
+            let sequence = original.rtp.sequence;
+            self.feedback.come_again(rtp.ssrc, of.ssrc, sequence);
+        }
     }
 
     fn read(&mut self, datagram: &[u8], is_muxed: bool, from: SocketAddr) {

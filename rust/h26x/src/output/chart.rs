@@ -131,7 +131,7 @@ impl Chart {
         match told {
             Told::Packet(packet, fate) => self.packet(packet, fate),
             Told::Unit(unit, time) => self.unit(unit, *time),
-            Told::Twice(_) => self.count(self.time, Of::Repeated, 1),
+            Told::Twice(_) | Told::Again(_) => self.count(self.time, Of::Repeated, 1),
             Told::Stray(_) => self.count(self.time, Of::Other, 1),
             Told::Anew => (self.jitter, self.picture) = (Jitter::default(), None),
         }

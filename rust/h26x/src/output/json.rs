@@ -50,6 +50,7 @@ pub fn packet(
         "bytes": rtp.payload.len(),
         "padding": rtp.padding,
         "moved": fate.is_moved,
+        "recovered": packet.is_resent,
     });
     if !rtp.is_padding() {
         object["packet"] = about.kind.into();
@@ -120,7 +121,7 @@ pub fn unit(
     )
 }
 
-/// A packet with this number that came twice, or is a stray.
+/// A packet with this number that came twice, or again by RTX, or is a stray.
 pub fn number(to: &mut impl Write, is: &str, sequence: u16) -> io::Result<()> {
     print(to, &json!({"is": is, "sequence": sequence}))
 }
@@ -151,6 +152,9 @@ pub fn totals(tally: &Tally, told: &[String]) -> Value {
             "refused": tally.refused,
             "late": tally.late,
             "twice": tally.twice,
+            "recovered": tally.recovered,
+            "again": tally.again,
+            "fec": tally.fec,
             "moved": tally.moved,
             "strays": tally.strays,
             "anew": tally.anew,

@@ -101,6 +101,7 @@ impl Report {
             Told::Packet(packet, fate) => self.packet(packet, fate),
             Told::Unit(unit, _) => writeln!(self.to, "      = {}", about_unit(unit)),
             Told::Twice(sequence) => self.note(&format!("{sequence} came twice")),
+            Told::Again(sequence) => self.note(&format!("{sequence} came again by RTX")),
             Told::Stray(sequence) => self.note(&format!("{sequence} is far from all others")),
             Told::Anew => self.note("the sender begins anew with another number"),
         }
@@ -117,6 +118,7 @@ impl Report {
                 json::unit(&mut self.to, self.begin.unwrap_or(*time), unit, *time)
             }
             Told::Twice(sequence) => json::number(&mut self.to, "twice", *sequence),
+            Told::Again(sequence) => json::number(&mut self.to, "again", *sequence),
             Told::Stray(sequence) => json::number(&mut self.to, "stray", *sequence),
             Told::Anew => json::anew(&mut self.to),
         }
@@ -132,6 +134,9 @@ impl Report {
         self.line(begin, packet, &about)?;
         if fate.is_moved {
             self.note("it came behind a later packet")?;
+        }
+        if packet.is_resent {
+            self.note("recovered by RTX")?;
         }
         note_of(&fate.became).map_or(Ok(()), |note| self.note(&note))
     }

@@ -5,9 +5,12 @@ use crate::captures::input::FRONT;
 use crate::captures::packets::{Met, Source, Stream, each_packet};
 use crate::captures::rtp::Rtp;
 use crate::captures::seen::PassedOver;
+use crate::commands::arguments::Looking;
 use crate::errors::Failure;
 use crate::streams::codecs::Likeness;
 use crate::streams::guises::{Guise, Looks};
+use crate::streams::originals::Originals;
+use crate::streams::payload_types::PayloadTypes;
 use emupedestal::Codec;
 use std::cmp::Reverse;
 use std::collections::HashMap;
@@ -124,13 +127,16 @@ impl Known {
     /// Whether its packets are numbered with those of another stream, and it is that one or holds
     /// something else. Packets of the same codec under another payload type may be of its units, and
     /// are missing there.
-    fn is_numbered_with(&self, other: &Known) -> bool {
+    fn is_numbered_with(&self, other: &Known, types: &PayloadTypes) -> bool {
         let holds_the_same = || {
             let codec = other.likeness.likeliest();
             codec.is_some_and(|it| self.likeness.is_likely(it))
         };
+        let payload_type = self.stream.payload_type;
+        let is_said = types.is_red(payload_type) || types.is_fec(payload_type);
         self.stream == other.stream
-            || (self.stream.source() == other.stream.source() && self.joins() && !holds_the_same())
+            || (self.stream.source() == other.stream.source()
+                && (is_said || (self.joins() && !holds_the_same())))
     }
 
     /// Whether its numbers go on from those of other payload types of its source.
@@ -168,11 +174,11 @@ impl Streams {
         named(self.known.iter().filter(|it| it.stream != *stream))
     }
 
-    pub fn takers(&self) -> Takers {
+    pub fn takers(&self, types: &PayloadTypes) -> Takers {
         let mut takers: HashMap<Stream, Vec<usize>> = HashMap::new();
         for (at, chosen) in self.chosen().enumerate() {
-            let numbered_with = self.known.iter().filter(|it| it.is_numbered_with(chosen));
-            for other in numbered_with {
+            let is_one = |it: &&Known| it.is_numbered_with(chosen, types);
+            for other in self.known.iter().filter(is_one) {
                 takers.entry(other.stream).or_default().push(at);
             }
         }
@@ -313,14 +319,20 @@ impl MetStreams {
 
 /// Reads a capture once, or the front of a pipe, and chooses the streams that are looked at; then the
 /// capture begins again.
-pub fn choose(capture: &mut Capture, choice: &Choice) -> Result<Streams, Failure> {
+pub fn choose(capture: &mut Capture, looking: &Looking) -> Result<Streams, Failure> {
+    let choice = &looking.choice;
     let mut met = MetStreams::default();
+    let mut originals = Originals::new(&looking.types);
     let is_soon = capture.is_pipe() && !choice.is_all;
     let passed = each_packet(capture, Some("looking for streams"), |it| {
         let Met::Packet(stream, from, packet) = it else {
             return Ok(ControlFlow::Continue(()));
         };
-        let known = met.add(stream, from, &packet.rtp);
+        let (stream, packet) = originals.of(stream, packet);
+        if packet.is_resent {
+            return Ok(ControlFlow::Continue(()));
+        }
+        let known = met.add(&stream, from, &packet.rtp);
         let is_clear = |it: &Known| it.following >= ENOUGH && choice.suits(it);
         Ok(match known.is_some_and(|it| is_soon && is_clear(it)) {
             true => ControlFlow::Break(()),

@@ -37,6 +37,17 @@ impl fmt::Display for Guise {
     }
 }
 
+impl Guise {
+    /// What to do.
+    pub fn advice(self) -> &'static str {
+        match self {
+            Guise::Redundant(_) => "say --red, or give the session description (--sdp)",
+            Guise::Retransmission(_) => "say --rtx, or give the session description (--sdp)",
+            Guise::Encrypted => "have them decrypted first",
+        }
+    }
+}
+
 /// What the payloads of a stream look like.
 pub struct Looks {
     packets: u64,

@@ -9,6 +9,7 @@ use crate::commands::arguments::Looking;
 use crate::errors::Failure;
 use crate::streams::numbers::Numbers;
 use crate::streams::payload::fragment;
+use crate::streams::payload_types::PayloadTypes;
 use crate::streams::refusals::reason;
 use crate::streams::runs::{Left, Runs};
 use crate::streams::sets::are_enough;
@@ -76,6 +77,7 @@ pub struct Reception {
     last_time: u64,
     runs: Runs,
     numbers: Numbers,
+    types: PayloadTypes,
     tally: Tally,
 }
 
@@ -112,16 +114,31 @@ impl Reception {
             last_time: 0,
             runs: Runs::new(codec, has_donl, run_limit),
             numbers: Numbers::new(codec, has_donl),
+            types: looking.types.clone(),
             tally: Tally::new(!looking.sets.is_empty()),
         }
     }
 
     /// Takes a packet that is numbered with those of the stream.
     pub fn take(&mut self, packet: &Captured<'_>, tell: &mut Tell<'_>) -> Outcome {
+        if packet.is_resent {
+            return self.take_resent(packet, tell);
+        }
         if self.kind(packet) != Kind::Other && !self.is_far(packet.rtp.sequence) {
             self.tally.rates.come(packet);
         }
         self.sort_in(packet, tell)
+    }
+
+    /// Takes a packet that was sent again, which tells nothing of when the sender sends and how it numbers.
+    fn take_resent(&mut self, packet: &Captured<'_>, tell: &mut Tell<'_>) -> Outcome {
+        let sequence = packet.rtp.sequence;
+        if !self.is_far(sequence) && !matches!(self.push(packet)?, Pushed::Late(_) | Pushed::Twice)
+        {
+            return self.take_held(packet, tell);
+        }
+        self.tally.again += 1;
+        tell(Told::Again(sequence))
     }
 
     fn sort_in(&mut self, packet: &Captured<'_>, tell: &mut Tell<'_>) -> Outcome {
@@ -272,7 +289,11 @@ impl Reception {
         }
         self.follow(sequence);
         let became = match self.kind(packet) {
-            Kind::Other => return Ok(()),
+            Kind::Other => {
+                let is_fec = self.types.is_fec(packet.rtp.payload_type);
+                self.tally.fec += u64::from(is_fec);
+                return Ok(());
+            }
             Kind::Padding => {
                 self.tally.padding += 1;
                 Became::Padding
@@ -290,7 +311,9 @@ impl Reception {
         self.last_time = self.unit_time.unwrap_or(0).max(packet.time);
         self.unit_time = Some(self.last_time);
         self.tally.packet(packet);
+        let is_moved = is_moved && !packet.is_resent;
         self.tally.moved += u64::from(is_moved);
+        self.tally.recovered += u64::from(packet.is_resent);
         let lost = std::mem::take(&mut self.lost);
         self.tally.miss(sequence, lost);
         let fate = Fate {

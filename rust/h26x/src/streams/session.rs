@@ -5,6 +5,7 @@ use crate::errors::Failure;
 use crate::streams::chooser::Choice;
 use crate::streams::codecs::name;
 use crate::streams::formats::Format;
+use crate::streams::payload_types::PayloadTypes;
 use emupedestal::Codec;
 use emupedestal::sdp::RtpMap;
 use std::collections::HashMap;
@@ -15,6 +16,8 @@ use std::path::Path;
 const LONGEST: u64 = 1 << 20;
 /// Ports that say that the packets go elsewhere: 0, as in RTSP, and that of discarded ones, as in an offer of WebRTC.
 const NO_PORTS: [u16; 2] = [0, 9];
+/// What protocols begin with whose packets go where ICE finds, and not to the port (RFC 8839, 4.2.1).
+const BY_ICE: [&str; 2] = ["UDP/TLS/", "TCP/"];
 
 /// A stream as it is described.
 pub struct Described {
@@ -24,6 +27,8 @@ pub struct Described {
     pub port: Option<u16>,
     pub has_donl: bool,
     pub sets: Vec<Vec<u8>>,
+    /// Payload types of what is sent with it.
+    pub types: PayloadTypes,
 }
 
 /// A payload type of a description, and what it says of its format.
@@ -31,6 +36,7 @@ struct Offered<'a> {
     map: RtpMap,
     port: Option<u16>,
     format: &'a str,
+    types: PayloadTypes,
 }
 
 /// The first stream of a description that is one of those that are asked for.
@@ -55,6 +61,7 @@ pub fn described(path: &Path, choice: &Choice) -> Result<Described, Failure> {
         port: it.port,
         has_donl: format.has_donl,
         sets: format.sets,
+        types: it.types.clone(),
     })
 }
 
@@ -76,6 +83,7 @@ fn offered(text: &str) -> Vec<Offered<'_>> {
     let lines: Vec<&str> = text.lines().map(str::trim).collect();
     for media in lines.chunk_by(|_, line| !line.starts_with("m=")) {
         let port = media[0].strip_prefix("m=").and_then(port_of);
+        let types = PayloadTypes::of_media(media);
         let values = |name| media.iter().filter_map(move |line| line.strip_prefix(name));
         let mut formats = HashMap::new();
         for (payload_type, format) in values("a=fmtp:").filter_map(format_of) {
@@ -87,6 +95,7 @@ fn offered(text: &str) -> Vec<Offered<'_>> {
                 map,
                 port,
                 format: format.copied().unwrap_or_default(),
+                types: types.clone(),
             });
         }
     }
@@ -95,9 +104,11 @@ fn offered(text: &str) -> Vec<Offered<'_>> {
 
 /// The port of a media, as in `video 5004 RTP/AVP 96` or `video 5004/2 RTP/AVP 96` (RFC 8866, 5.14).
 fn port_of(media: &str) -> Option<u16> {
-    let port = media.split_ascii_whitespace().nth(1)?;
-    let port = port.split('/').next()?.parse().ok()?;
-    (!NO_PORTS.contains(&port)).then_some(port)
+    let mut words = media.split_ascii_whitespace().skip(1);
+    let port = words.next()?.split('/').next()?.parse().ok()?;
+    let protocol = words.next().unwrap_or_default();
+    let is_by_ice = BY_ICE.iter().any(|it| protocol.starts_with(it));
+    (!is_by_ice && !NO_PORTS.contains(&port)).then_some(port)
 }
 
 /// The payload type of a line, and what stands behind it.

@@ -19,6 +19,11 @@ pub struct Tally {
     pub bytes: u64,
     pub late: u64,
     pub twice: u64,
+    /// Packets that came by RTX alone, and such that had come or were no longer waited for.
+    pub recovered: u64,
+    pub again: u64,
+    /// Packets of forward error correction among those of the stream.
+    pub fec: u64,
     /// Packets that came behind a later one, and were put before it.
     pub moved: u64,
     pub strays: u64,
@@ -136,7 +141,7 @@ impl Tally {
         let advice = self.advice.map(String::from);
         let guise = self
             .guise
-            .map(|it| format!("odd: its payloads look as {it}, which are not unpacked"));
+            .map(|it| format!("odd: its payloads look as {it}: {}", it.advice()));
         advice
             .into_iter()
             .chain(self.losses())
@@ -160,8 +165,19 @@ impl Tally {
         (self.missing > 0).then(|| format!("lost: {lost}: {}", gaps.join(", ")))
     }
 
-    fn counts(&self) -> [(u64, &'static str, &'static str); 9] {
+    fn counts(&self) -> [(u64, &'static str, &'static str); 12] {
         [
+            (self.recovered, "packet", "recovered by RTX (RFC 4588)"),
+            (
+                self.again,
+                "packet",
+                "passed over, sent again by RTX though they had come, or too late",
+            ),
+            (
+                self.fec,
+                "packet",
+                "passed over, of forward error correction (FEC, RFC 5109)",
+            ),
             (self.given_up, "unit", "left out, for want of a packet"),
             (self.too_long, "unit", "left out, longer than --run-limit"),
             (self.parts, "packet", CUT),

@@ -16,6 +16,8 @@ pub enum Told<'a> {
     Unit(&'a ReceivedAccessUnit, u64),
     /// A packet that came twice while another was waited for.
     Twice(u16),
+    /// A packet that was sent again, by RTX, though it had come or was no longer waited for.
+    Again(u16),
     /// A packet whose number is far from all others.
     Stray(u16),
     /// The sender began anew with the number that follows.

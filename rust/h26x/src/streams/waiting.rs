@@ -16,6 +16,7 @@ pub struct Kept {
 impl Kept {
     pub fn new(packet: &Captured<'_>) -> Self {
         let rtp = Rtp {
+            extension: None,
             payload: &[],
             ..packet.rtp
         };

@@ -23,6 +23,7 @@ mod program;
 mod rates;
 mod received;
 mod recordings;
+mod resent;
 mod rtsp;
 mod sdp;
 mod sdp_peers;

@@ -45,7 +45,7 @@ fn objects_of_json() {
         json!({
             "is": "packet", "sequence": sequence, "seconds": seconds,
             "timestamp": u32::from(sequence) * 90, "marker": marker, "bytes": bytes, "padding": 0,
-            "moved": false, "packet": "single", "keyframe": false, "lost_before": 0,
+            "moved": false, "recovered": false, "packet": "single", "keyframe": false, "lost_before": 0,
         })
     };
     let with = |mut object: Value, more: Value| {
@@ -101,7 +101,7 @@ fn objects_of_json() {
         ),
         json!({
             "is": "packet", "sequence": 10, "seconds": 0.006, "timestamp": 900, "marker": false,
-            "bytes": 0, "padding": 3, "moved": false, "became": "padding", "lost_before": 0,
+            "bytes": 0, "padding": 3, "moved": false, "recovered": false, "became": "padding", "lost_before": 0,
         }),
         json!({"is": "stray", "sequence": 30_000}),
     ];
