@@ -11,7 +11,7 @@ mod output;
 mod streams;
 
 use commands::arguments::{self, Command};
-use commands::{completion, help, inspect, manual, receive, send};
+use commands::{help, inspect, manual, receive, send};
 use errors::Failure;
 use output::printing;
 use std::ffi::OsString;
@@ -40,6 +40,6 @@ fn done(words: Vec<OsString>) -> Result<u8, Failure> {
         Command::HelpOf(command) => printing::print(&help::help_of(command)).map(|()| 0),
         Command::Version => printing::print(VERSION).map(|()| 0),
         Command::Manual => printing::print(&manual::manual()).map(|()| 0),
-        Command::Completion(shell) => printing::print(&completion::completion(shell)).map(|()| 0),
+        Command::Completion(made) => printing::print(&made()).map(|()| 0),
     }
 }

@@ -2,8 +2,8 @@
 
 use crate::captures::frames::LONGEST_PAYLOAD;
 use crate::captures::rtp::RTCP;
-use crate::commands::completion::Shell;
-use crate::commands::options::COMMANDS;
+use crate::commands::completion::{self, Made};
+use crate::commands::options::{COMMANDS, one_of_these};
 use crate::commands::words::{STANDARD, Words, before_command, unknown};
 use crate::errors::Failure;
 use crate::network::address::{is_address, to_send};
@@ -40,7 +40,7 @@ pub enum Command {
     HelpOf(&'static str),
     Version,
     Manual,
-    Completion(Shell),
+    Completion(Made),
 }
 
 pub struct Send {
@@ -108,7 +108,10 @@ pub fn command(words: Vec<OsString>) -> Result<Command, Failure> {
     let first = words.next().unwrap_or_default();
     let first = first.to_string_lossy();
     let alone = match &*first {
-        "" => return Err(Failure::usage("say what to do: send, receive or inspect")),
+        "" => {
+            let commands = one_of_these(&COMMANDS);
+            return Err(Failure::usage(format!("say what to do: {commands}")));
+        }
         "--version" | "-V" => Some(Command::Version),
         "--help" | "-h" | "help" => Some(Command::Help),
         "man" => Some(Command::Manual),
@@ -127,7 +130,8 @@ pub fn command(words: Vec<OsString>) -> Result<Command, Failure> {
         return Err(match first.starts_with('-') {
             true => before_command(&first),
             false => Failure::usage(format!(
-                "there is no command {first}: send, receive or inspect"
+                "there is no command {first}: {}",
+                one_of_these(&COMMANDS)
             )),
         });
     };
@@ -147,15 +151,16 @@ pub fn command(words: Vec<OsString>) -> Result<Command, Failure> {
 
 fn completion(shell: Option<OsString>) -> Result<Command, Failure> {
     let shell = shell.and_then(|it| it.into_string().ok());
-    match shell.as_deref().and_then(Shell::named) {
-        Some(shell) => Ok(Command::Completion(shell)),
-        None => Err(Failure::usage("say which shell: bash, zsh or fish")),
-    }
+    let made = shell.as_deref().and_then(completion::of_shell);
+    made.map(Command::Completion).ok_or_else(|| {
+        let shells = one_of_these(&completion::shells());
+        Failure::usage(format!("say which shell: {shells}"))
+    })
 }
 
 impl Words {
     fn send(&mut self) -> Result<Send, Failure> {
-        let [input, output] = self.files("send IN.h264 OUT.pcap")?;
+        let [input, output] = self.files()?;
         let codec = self.codec_of(&input)?;
         let has_lengths = self.flag("--lengths");
         let Some(codec) = codec else {
@@ -362,7 +367,7 @@ impl Words {
     }
 
     fn receive(&mut self) -> Result<Receive, Failure> {
-        let [input, output] = self.files("receive IN.pcap OUT.h264")?;
+        let [input, output] = self.files()?;
         let codec = self.codec()?;
         let is_all = self.has("--all");
         let ending = match is_all {
@@ -384,7 +389,7 @@ impl Words {
     }
 
     fn inspect(&mut self) -> Result<Inspect, Failure> {
-        let [input] = self.files("inspect IN.pcap")?;
+        let [input] = self.files()?;
         let codec = self.codec()?;
         let looking = self.looking(input, codec, None)?;
         let html = self.value("--html").map(PathBuf::from);
@@ -415,14 +420,8 @@ impl Words {
     }
 
     fn color(&mut self) -> Result<Color, Failure> {
-        match self.value("--color").as_deref() {
-            None | Some("auto") => Ok(Color::Auto),
-            Some("always") => Ok(Color::Always),
-            Some("never") => Ok(Color::Never),
-            Some(other) => Err(Failure::usage(format!(
-                "--color {other}: give auto, always or never"
-            ))),
-        }
+        let color = self.one_of("--color", Color::named)?;
+        Ok(color.unwrap_or(Color::Auto))
     }
 }
 

@@ -1,36 +1,24 @@
 //! Completions of the command line for shells.
 
-use crate::commands::options::{COMMANDS, FILE, GROUPS, Opt};
+use crate::commands::options::{COMMANDS, FILE, GROUPS, Opt, call_of, others};
 use std::fmt::Write;
 
-#[derive(Clone, Copy, PartialEq, Eq)]
-pub enum Shell {
-    Bash,
-    Zsh,
-    Fish,
+/// What makes the completions of a shell.
+pub type Made = fn() -> String;
+
+/// In the order in which the table has the shells.
+const MADE: [Made; 3] = [bash, zsh, fish];
+
+/// The shells that there are completions for.
+pub fn shells() -> Vec<&'static str> {
+    let words = call_of("completion").map_or("", |it| it.words);
+    words.split('|').collect()
 }
 
-impl Shell {
-    pub fn named(name: &str) -> Option<Self> {
-        match name {
-            "bash" => Some(Shell::Bash),
-            "zsh" => Some(Shell::Zsh),
-            "fish" => Some(Shell::Fish),
-            _ => None,
-        }
-    }
-}
-
-/// What else stands as a command.
-const OTHERS: [&str; 3] = ["help", "man", "completion"];
-const SHELLS: &str = "bash zsh fish";
-
-pub fn completion(shell: Shell) -> String {
-    match shell {
-        Shell::Bash => bash(),
-        Shell::Zsh => zsh(),
-        Shell::Fish => fish(),
-    }
+/// What makes the completions of a shell of this name.
+pub fn of_shell(name: &str) -> Option<Made> {
+    let at = shells().iter().position(|it| *it == name)?;
+    MADE.get(at).copied()
 }
 
 /// The options of a command.
@@ -46,7 +34,8 @@ fn all_options() -> impl Iterator<Item = &'static Opt> {
 }
 
 fn commands() -> String {
-    [&COMMANDS[..], &OTHERS].concat().join(" ")
+    let commands = COMMANDS.into_iter().chain(others());
+    commands.collect::<Vec<&str>>().join(" ")
 }
 
 fn bash() -> String {
@@ -83,7 +72,7 @@ _h26x() {{
         return
     fi
     case $before in
-        completion) COMPREPLY=($(compgen -W '{SHELLS}' -- \"$word\")); return ;;
+        completion) COMPREPLY=($(compgen -W '{}' -- \"$word\")); return ;;
 {of_values}        {}) return ;;
     esac
     case ${{COMP_WORDS[1]}} in
@@ -96,6 +85,7 @@ _h26x() {{
 complete -F _h26x h26x
 ",
         commands(),
+        shells().join(" "),
         names.join("|"),
     )
 }
@@ -143,7 +133,7 @@ _h26x() {{
     shift words
     (( CURRENT-- ))
     case $command in
-{of_commands}        completion) compadd {SHELLS} ;;
+{of_commands}        completion) compadd {} ;;
     esac
 }}
 if [ \"$funcstack[1]\" = _h26x ]; then
@@ -152,7 +142,8 @@ else
     compdef _h26x h26x
 fi
 ",
-        commands()
+        commands(),
+        shells().join(" "),
     )
 }
 
@@ -165,7 +156,8 @@ fn fish() -> String {
     );
     let _ = writeln!(
         lines,
-        "complete -c h26x -n '__fish_seen_subcommand_from completion' -f -a '{SHELLS}'"
+        "complete -c h26x -n '__fish_seen_subcommand_from completion' -f -a '{}'",
+        shells().join(" ")
     );
     for group in &GROUPS {
         for option in group.options {

@@ -1,13 +1,25 @@
 //! The manual page, `h26x(1)`, whose options are those of the program.
 
-use crate::commands::options::{COMMANDS, GROUPS, Group, Opt};
+use crate::commands::options::{CALLS, COMMANDS, Call, GROUPS, Group, Opt};
 
 const PAGE: &str = include_str!("../../h26x.1.in");
 
 pub fn manual() -> String {
     let options: String = GROUPS.iter().map(of_group).collect();
+    let calls: Vec<String> = CALLS.iter().map(of_call).collect();
     PAGE.replace("@VERSION@", env!("CARGO_PKG_VERSION"))
+        .replace("@CALLS@\n", &calls.join(".br\n"))
         .replace("@OPTIONS@\n", &options)
+}
+
+fn of_call(call: &Call) -> String {
+    let name = format!(".B h26x {}\n", call.command);
+    let words = escaped(call.words);
+    match (COMMANDS.contains(&call.command), call.words) {
+        (true, _) => format!("{name}.RI [ option \\&...] \" {words}\"\n"),
+        (false, "") => name,
+        (false, _) => format!("{name}.I {words}\n"),
+    }
 }
 
 fn of_group(group: &Group) -> String {
@@ -22,7 +34,7 @@ fn of_group(group: &Group) -> String {
 fn of_option(option: &Opt) -> String {
     let name = escaped(option.name);
     let about = escaped(option.about);
-    match option.value {
+    match option.shown_value() {
         Some(value) => format!(".TP\n\\fB{name}\\fR \\fI{value}\\fR\n{about}\n"),
         None => format!(".TP\n\\fB{name}\\fR\n{about}\n"),
     }

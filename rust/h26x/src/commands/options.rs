@@ -1,7 +1,55 @@
-//! The options of all commands, of which the help, the manual page and the completions are made.
+//! The commands and their options: the table by which words are read, and of which the help, the manual page and the
+//! completions are made.
 
 /// The commands that work on streams and captures.
 pub const COMMANDS: [&str; 3] = ["send", "receive", "inspect"];
+
+/// A way to call the program.
+pub struct Call {
+    pub command: &'static str,
+    /// The words behind the command, but for options.
+    pub words: &'static str,
+    pub about: &'static str,
+}
+
+const fn call(command: &'static str, words: &'static str, about: &'static str) -> Call {
+    Call {
+        command,
+        words,
+        about,
+    }
+}
+
+/// Each command's first form is the one that it is told by where words are missing.
+pub static CALLS: [Call; 7] = [
+    call(
+        "send",
+        "IN.h264 OUT.pcap",
+        "puts a stream, in Annex B form or behind lengths, in a capture",
+    ),
+    call(
+        "receive",
+        "IN.pcap OUT.h264",
+        "writes the units of a stream in a capture; OUT.mp4: MP4",
+    ),
+    call(
+        "inspect",
+        "IN.pcap",
+        "says what each packet is, and what is lost and refused",
+    ),
+    call(
+        "send",
+        "IN.h264 udp://HOST:PORT",
+        "sends it live; receive and inspect take udp://:PORT",
+    ),
+    call(
+        "help",
+        "",
+        "says this; COMMAND --help what is of one command",
+    ),
+    call("man", "", "the manual page, as in: h26x man | man -l -"),
+    call("completion", "bash|zsh|fish", "completions for a shell"),
+];
 
 pub struct Opt {
     pub name: &'static str,
@@ -11,6 +59,17 @@ pub struct Opt {
     pub values: &'static [&'static str],
     /// What it does, and in parentheses what is so without it.
     pub about: &'static str,
+}
+
+impl Opt {
+    /// What stands for its value, or what that may be.
+    pub fn shown_value(&self) -> Option<String> {
+        let value = self.value?;
+        Some(match self.values {
+            [] => value.into(),
+            values => values.join("|"),
+        })
+    }
 }
 
 /// What the value of an option is called that is a file.
@@ -187,7 +246,7 @@ pub static GROUPS: [Group; 5] = [
                 "--color",
                 "WHEN",
                 &["auto", "always", "never"],
-                "colours: auto, always or never (auto: on a terminal, where NO_COLOR isn't set)",
+                "colours (auto: on a terminal, where NO_COLOR isn't set)",
             ),
         ],
     },
@@ -198,8 +257,8 @@ pub static GROUPS: [Group; 5] = [
                 "--codec",
                 "CODEC",
                 &["h264", "h265", "h266"],
-                "h264, h265 or h266 (what the file's ending tells: .h264 .264, .h265 .265 .hevc, \
-                 .h266 .266 .vvc; receive and inspect look at the packets where it tells nothing)",
+                "the codec (what the file's ending tells: .h264 .264, .h265 .265 .hevc, .h266 \
+                 .266 .vvc; receive and inspect look at the packets where it tells nothing)",
             ),
             flag(
                 "--donl",
@@ -215,6 +274,25 @@ pub static GROUPS: [Group; 5] = [
         ],
     },
 ];
+
+/// The first form of a command.
+pub fn call_of(command: &str) -> Option<&'static Call> {
+    CALLS.iter().find(|it| it.command == command)
+}
+
+/// The commands without streams and captures.
+pub fn others() -> impl Iterator<Item = &'static str> {
+    let commands = CALLS.iter().map(|it| it.command);
+    commands.filter(|it| !COMMANDS.contains(it))
+}
+
+/// Words as in `send, receive or inspect`.
+pub fn one_of_these(words: &[&str]) -> String {
+    match words {
+        [first @ .., last] if !first.is_empty() => format!("{} or {last}", first.join(", ")),
+        _ => words.concat(),
+    }
+}
 
 /// The option of a command.
 pub fn of_command(command: &str, name: &str) -> Option<&'static Opt> {

@@ -1,6 +1,6 @@
 //! The words of the command line, as files and options.
 
-use crate::commands::options::{Opt, commands_with, of_command};
+use crate::commands::options::{COMMANDS, Opt, call_of, commands_with, of_command, one_of_these};
 use crate::errors::Failure;
 use crate::streams::codecs::{named, of_path};
 use emupedestal::Codec;
@@ -12,12 +12,16 @@ pub const STANDARD: &str = "-";
 
 /// The words behind the name of the command: files, and options with their values.
 pub struct Words {
+    command: &'static str,
     files: Vec<PathBuf>,
     options: Vec<(&'static str, String)>,
 }
 
 impl Words {
-    pub fn of(command: &str, mut words: impl Iterator<Item = OsString>) -> Result<Self, Failure> {
+    pub fn of(
+        command: &'static str,
+        mut words: impl Iterator<Item = OsString>,
+    ) -> Result<Self, Failure> {
         let (mut files, mut options) = (Vec::new(), Vec::new());
         let mut are_files = false;
         while let Some(word) = words.next() {
@@ -33,7 +37,11 @@ impl Words {
         options.sort();
         match options.windows(2).find(|pair| pair[0].0 == pair[1].0) {
             Some(pair) => Err(Failure::usage(format!("{} is given twice", pair[0].0))),
-            None => Ok(Words { files, options }),
+            None => Ok(Words {
+                command,
+                files,
+                options,
+            }),
         }
     }
 
@@ -69,12 +77,22 @@ impl Words {
         }
     }
 
-    pub fn codec(&mut self) -> Result<Option<Codec>, Failure> {
-        let Some(value) = self.value("--codec") else {
+    /// The value of an option that has few.
+    pub fn one_of<T>(
+        &mut self,
+        name: &str,
+        read: impl Fn(&str) -> Option<T>,
+    ) -> Result<Option<T>, Failure> {
+        let Some(value) = self.value(name) else {
             return Ok(None);
         };
-        let unknown = || Failure::usage(format!("--codec {value}: give h264, h265 or h266"));
-        named(&value).ok_or_else(unknown).map(Some)
+        let values = of_command(self.command, name).map_or(&[][..], |it| it.values);
+        let unknown = || Failure::usage(format!("{name} {value}: give {}", one_of_these(values)));
+        read(&value).ok_or_else(unknown).map(Some)
+    }
+
+    pub fn codec(&mut self) -> Result<Option<Codec>, Failure> {
+        self.one_of("--codec", named)
     }
 
     /// The codec that is given, or that the ending of a stream's file tells.
@@ -82,11 +100,12 @@ impl Words {
         Ok(self.codec()?.or_else(|| of_path(stream)))
     }
 
-    pub fn files<const N: usize>(&mut self, form: &str) -> Result<[PathBuf; N], Failure> {
+    pub fn files<const N: usize>(&mut self) -> Result<[PathBuf; N], Failure> {
         let files = std::mem::take(&mut self.files);
-        files
-            .try_into()
-            .map_err(|_| Failure::usage(format!("give the files as in: h26x {form}")))
+        let command = self.command;
+        let words = call_of(command).map_or("", |it| it.words);
+        let said = format!("give the files as in: h26x {command} {words}");
+        files.try_into().map_err(|_| Failure::usage(said))
     }
 }
 
@@ -122,7 +141,8 @@ pub fn before_command(option: &str) -> Failure {
     match commands_with(name)[..] {
         [] => unknown("", name),
         _ => Failure::usage(format!(
-            "{name} stands behind the command: send, receive or inspect"
+            "{name} stands behind the command: {}",
+            one_of_these(&COMMANDS)
         )),
     }
 }

@@ -24,6 +24,15 @@ pub struct Painter {
 }
 
 impl Color {
+    pub fn named(word: &str) -> Option<Self> {
+        match word {
+            "auto" => Some(Color::Auto),
+            "always" => Some(Color::Always),
+            "never" => Some(Color::Never),
+            _ => None,
+        }
+    }
+
     /// A painter for standard output.
     pub fn painter(self) -> Painter {
         let is_wanted = || {

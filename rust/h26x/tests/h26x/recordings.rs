@@ -300,7 +300,9 @@ fn what_is_not_written() {
         .map(|at| Rtp::new(at, u32::from(at) * 90, true, &[0x41, 0x9a, 1]))
         .collect();
     folder.write("in.pcap", &pcap_with(&slices));
-    for name in ["out.mkv", "out.MOV", "out.ivf", "out.ts", "out.pcap"] {
+    for name in [
+        "out.mkv", "out.webm", "out.MOV", "out.avi", "out.ivf", "out.ts", "out.pcap",
+    ] {
         folder
             .run(&["receive", "in.pcap", name])
             .says(2, &["can't be written; name a file that ends with .mp4"]);
