@@ -109,9 +109,14 @@ fn receive(
     depacketizer: &mut host::BoxedDepacketizer,
     packets: &[(bool, Vec<u8>)],
 ) -> (Vec<u8>, CodecExtra) {
-    let (mut out, mut extra) = (Vec::new(), CodecExtra::None);
+    let size = packets.iter().map(|it| it.1.len()).sum();
+    let mut out = Vec::with_capacity(depacketizer.out_size_hint(size).unwrap_or(size));
+    let mut extra = CodecExtra::None;
+    assert!(depacketizer.is_partition_head(&packets[0].1));
     for (i, (marker, packet)) in packets.iter().enumerate() {
-        assert_eq!(*marker, i + 1 == packets.len(), "the last alone is marked");
+        let is_last = i + 1 == packets.len();
+        assert_eq!(*marker, is_last, "the last alone is marked");
+        assert_eq!(depacketizer.is_partition_tail(*marker, packet), is_last);
         depacketizer
             .depacketize(packet, &mut out, &mut extra)
             .expect("a packet of this codec");
@@ -123,6 +128,11 @@ fn receive(
 fn check(stream: Stream) {
     let (codec, max_don_diff) = (stream.codec, stream.sprop_max_don_diff);
     let mut packetizer = adapter::packetizer(codec, max_don_diff);
+    let is_video = codec != Codec::Opus;
+    assert_eq!(
+        (packetizer.nackable(), packetizer.marks_talkspurt()),
+        (is_video, false)
+    );
     let frames = [&stream.keyframe, &stream.picture].map(|frame| send(&mut packetizer, frame));
     assert_eq!(frames.each_ref().map(Vec::len), stream.packets, "{codec:?}");
 

@@ -48,6 +48,14 @@ impl<P: emupedestal::Packetizer> host::Packetizer for Sends<P> {
     fn is_marker(&mut self, data: &[u8], previous: Option<&[u8]>, last: bool) -> bool {
         self.0.is_marker(data, previous, last)
     }
+
+    fn marks_talkspurt(&self) -> bool {
+        self.0.marks_talkspurt()
+    }
+
+    fn nackable(&self) -> bool {
+        self.0.nackable()
+    }
 }
 
 /// A depacketizer of emupedestal behind the server's trait.
@@ -55,6 +63,10 @@ impl<P: emupedestal::Packetizer> host::Packetizer for Sends<P> {
 struct Receives<D>(D);
 
 impl<D: emupedestal::Depacketizer> host::Depacketizer for Receives<D> {
+    fn out_size_hint(&self, packets_size: usize) -> Option<usize> {
+        self.0.out_size_hint(packets_size)
+    }
+
     fn depacketize(
         &mut self,
         packet: &[u8],
@@ -65,6 +77,14 @@ impl<D: emupedestal::Depacketizer> host::Depacketizer for Receives<D> {
         self.0.depacketize(packet, out, &mut extra)?;
         tell(extra, codec_extra);
         Ok(())
+    }
+
+    fn is_partition_head(&self, packet: &[u8]) -> bool {
+        self.0.is_partition_head(packet)
+    }
+
+    fn is_partition_tail(&self, marker: bool, packet: &[u8]) -> bool {
+        self.0.is_partition_tail(marker, packet)
     }
 }
 

@@ -1,6 +1,7 @@
-//! A media server's own payload layer: its errors, extras and traits, and a codec that it has itself.
+//! A media server's own payload layer: its errors, extras and traits, and a codec that it has itself. The traits have
+//! the methods of str0m 0.25.0, which `tools/compare-with-str0m` looks up in that crate.
 
-use std::fmt::Debug;
+use std::fmt;
 use std::panic::UnwindSafe;
 
 /// A codec of the server.
@@ -51,20 +52,34 @@ impl CodecExtra {
 }
 
 /// Cuts a frame into RTP payloads.
-pub trait Packetizer: Debug {
+pub trait Packetizer: fmt::Debug {
     fn packetize(&mut self, mtu: usize, b: &[u8]) -> Result<Vec<Vec<u8>>, PacketError>;
 
     fn is_marker(&mut self, data: &[u8], previous: Option<&[u8]>, last: bool) -> bool;
+
+    fn marks_talkspurt(&self) -> bool {
+        false
+    }
+
+    fn nackable(&self) -> bool {
+        true
+    }
 }
 
 /// Puts a frame together from RTP payloads.
-pub trait Depacketizer: Debug {
+pub trait Depacketizer: fmt::Debug {
+    fn out_size_hint(&self, packets_size: usize) -> Option<usize>;
+
     fn depacketize(
         &mut self,
         packet: &[u8],
         out: &mut Vec<u8>,
         codec_extra: &mut CodecExtra,
     ) -> Result<(), PacketError>;
+
+    fn is_partition_head(&self, packet: &[u8]) -> bool;
+
+    fn is_partition_tail(&self, marker: bool, packet: &[u8]) -> bool;
 }
 
 /// The boxes in which the server keeps them, one for each stream.
@@ -83,9 +98,17 @@ impl Packetizer for Opus {
     fn is_marker(&mut self, _data: &[u8], _previous: Option<&[u8]>, last: bool) -> bool {
         last
     }
+
+    fn nackable(&self) -> bool {
+        false
+    }
 }
 
 impl Depacketizer for Opus {
+    fn out_size_hint(&self, packets_size: usize) -> Option<usize> {
+        Some(packets_size)
+    }
+
     fn depacketize(
         &mut self,
         packet: &[u8],
@@ -98,5 +121,13 @@ impl Depacketizer for Opus {
         out.extend_from_slice(packet);
         *codec_extra = CodecExtra::Opus;
         Ok(())
+    }
+
+    fn is_partition_head(&self, _packet: &[u8]) -> bool {
+        true
+    }
+
+    fn is_partition_tail(&self, _marker: bool, _packet: &[u8]) -> bool {
+        true
     }
 }
