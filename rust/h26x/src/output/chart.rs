@@ -25,9 +25,10 @@ enum Of {
     Lost,
     Repeated,
     Reordered,
+    Recovered,
     Refused,
 }
-const COUNTS: [(&str, Of); 8] = [
+const COUNTS: [(&str, Of); 9] = [
     ("fragments", Of::Fragments),
     ("single", Of::Single),
     ("aggregates", Of::Aggregates),
@@ -35,6 +36,7 @@ const COUNTS: [(&str, Of); 8] = [
     ("lost", Of::Lost),
     ("repeated", Of::Repeated),
     ("reordered", Of::Reordered),
+    ("recovered", Of::Recovered),
     ("refused", Of::Refused),
 ];
 /// Kinds of access units.
@@ -155,6 +157,7 @@ impl Chart {
         self.count(packet.time, kind, 1);
         self.count(packet.time, Of::Lost, fate.lost.into());
         self.count(packet.time, Of::Reordered, fate.is_moved.into());
+        self.count(packet.time, Of::Recovered, packet.is_resent.into());
         self.part(packet.time).bytes += payload.len() as u64;
     }
 

@@ -8,13 +8,13 @@ const IDR: &[u8] = &[0x65, 0x88, 1, 2];
 const SLICE: &[u8] = &[0x41, 0x9a, 1];
 
 /// The object that a page draws.
-fn data(page: &str) -> Value {
+pub fn data(page: &str) -> Value {
     let (_, behind) = page.split_once("id=\"data\">").expect("data");
     let (data, _) = behind.split_once("</script>").expect("its end");
     serde_json::from_str(data).expect("JSON")
 }
 
-fn sum(column: &Value) -> u64 {
+pub fn sum(column: &Value) -> u64 {
     let numbers = column.as_array().expect("a column");
     numbers.iter().filter_map(Value::as_u64).sum()
 }
@@ -52,6 +52,7 @@ fn what_a_page_shows() {
         ("lost", 1),
         ("repeated", 1),
         ("reordered", 1),
+        ("recovered", 0),
         ("refused", 1),
         ("aggregates", 0),
         ("keyframe", 1),

@@ -2,6 +2,7 @@
 //! and by session descriptions. Bytes are by the figures of these RFCs.
 
 use crate::build::{ethernet, ipv4, pcap, udp};
+use crate::pictures::{data, sum};
 use crate::program::{Folder, Ran, cut};
 use std::path::Path;
 
@@ -165,7 +166,7 @@ fn retransmissions() {
     receives(&came, "", &[], &without)[0].says(3, &["lost: 1 packet: 1 before 4"]);
 }
 
-/// What JSON says of it.
+/// What JSON says of it, and a page.
 #[test]
 fn retransmissions_in_json() {
     let mut came = media([0, 1, 3, 4, 5]);
@@ -197,6 +198,14 @@ fn retransmissions_in_json() {
     ] {
         assert_eq!(totals[name], wanted, "{name}");
     }
+    let page = ["inspect", "in.pcap", "--rtx", "97=96", "--html", "out.html"];
+    folder.run(&page).says(0, &[]);
+    let page = data(&String::from_utf8(folder.read("out.html")).expect("text"));
+    let columns = &page["streams"][0]["columns"];
+    assert_eq!(
+        (sum(&columns["recovered"]), sum(&columns["reordered"])),
+        (1, 0)
+    );
 }
 
 /// A sender that tries the path by a hundred packets that came long ago, one behind another, doesn't begin anew.
