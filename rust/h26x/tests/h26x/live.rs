@@ -134,6 +134,47 @@ fn lost_packets_are_asked_for() {
     check_units("h264", &folder.read("out.h264"), stream);
 }
 
+/// A packet that is lost comes by RTX once it is asked for, and isn't asked for again.
+#[test]
+fn what_rtx_sends_again_is_not_asked_for() {
+    if !tells_sockets() {
+        return;
+    }
+    let folder = Folder::new();
+    let stream = &small_streams()[0].1;
+    folder.write("in.h264", stream);
+    folder.run(&["send", "in.h264", "in.pcap"]).says(0, &[]);
+    let mut packets = crate::peers::packets_in(&folder.read("in.pcap"));
+    let lost = packets.remove(10);
+    let port = free_port();
+    let at = format!("udp://127.0.0.1:{port}");
+    let words = ["receive", &at, "out.h264", "--rtx", "97=96", "--for", "2"];
+    let peer = listening(&folder, port, &words);
+    let (_, [rtp, rtcp]) = sockets();
+    let to = ("127.0.0.1", port);
+    for packet in &packets[..packets.len() - 1] {
+        rtp.send_to(packet, to).expect("sent");
+        std::thread::sleep(Duration::from_millis(1));
+    }
+    // Packets of transport feedback stand behind a report and a name (RFC 4585, 6.1).
+    let asks = |wait| {
+        let mut datagram = [0; 500];
+        rtcp.set_read_timeout(Some(wait)).expect("a time");
+        let came = rtcp.recv(&mut datagram);
+        came.is_ok_and(|len| datagram[..len].windows(2).any(|it| it == [0x81, 205]))
+    };
+    assert!(asks(Duration::from_secs(1)), "it is asked for");
+    let mut again = lost.clone();
+    again[1] ^= 96 ^ 97;
+    again[8] ^= 1;
+    again.splice(12..12, [lost[2], lost[3]]);
+    rtp.send_to(&again, to).expect("sent");
+    rtp.send_to(&packets[packets.len() - 1], to).expect("sent");
+    assert!(!asks(Duration::from_millis(500)), "it has come");
+    assert!(peer.end());
+    check_units("h264", &folder.read("out.h264"), stream);
+}
+
 #[derive(Debug, Default)]
 struct Seen {
     lost: usize,
