@@ -40,9 +40,11 @@ fn inspected(folder: &Folder) -> Vec<([String; 4], String)> {
             line[40..50].trim().to_string(),
         )
     };
-    // The lines of packets are those with a time.
-    let lines = ran.out.lines().filter(|line| line.get(11..12) == Some("."));
-    lines.map(row).collect()
+    // The lines of packets begin with a number and a time.
+    let is_number = |it: &str| it.trim_start().parse::<f64>().is_ok();
+    let is_packet =
+        |it: &&str| it.get(..5).is_some_and(is_number) && it.get(5..18).is_some_and(is_number);
+    ran.out.lines().filter(is_packet).map(row).collect()
 }
 
 /// A packet's type with its marks, out of its header's type and its marks as tshark has them.
