@@ -13,6 +13,7 @@ use crate::network::sockets::Sockets;
 use crate::output::parts;
 use crate::streams::originals::Originals;
 use crate::streams::seed::Drawn;
+use emupedestal::rtp::is_rtcp;
 use std::collections::HashMap;
 use std::fs::File;
 use std::io::{self, BufWriter, Write};
@@ -110,7 +111,7 @@ impl Listener {
         let time = since.unwrap_or_default();
         let (source, port) = canonical(from);
         let to = self.address_here(source);
-        if rtcp::is_rtcp(datagram) {
+        if is_rtcp(datagram) {
             self.read(datagram, true, from);
         } else if let Some(rtp) = rtp(datagram) {
             let nanos = time.as_nanos() as u64;

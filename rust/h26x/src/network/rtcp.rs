@@ -1,23 +1,14 @@
 //! Packets of RTCP (RFC 3550, 6; RFC 4585, 6): those that are written, and what is read of others'.
 
-use std::ops::RangeInclusive;
-
 const SENDER_REPORT: u8 = 200;
 const RECEIVER_REPORT: u8 = 201;
 const DESCRIPTION: u8 = 202;
 const GOODBYE: u8 = 203;
 const OF_TRANSPORT: u8 = 205;
 const OF_PAYLOAD: u8 = 206;
-/// Types of packets of RTCP where they share a port with RTP (RFC 5761, 4).
-const TYPES: RangeInclusive<u8> = 192..=223;
 const NACK: u8 = 1;
 const PLI: u8 = 1;
 const CNAME: u8 = 1;
-
-/// Whether a datagram is of RTCP, and not of RTP.
-pub fn is_rtcp(datagram: &[u8]) -> bool {
-    matches!(datagram, [flags, kind, ..] if flags >> 6 == 2 && TYPES.contains(kind))
-}
 
 /// What a receiver says of a source (RFC 3550, 6.4.1).
 #[derive(Clone, Copy, Debug, PartialEq, Eq, Default)]
@@ -222,6 +213,7 @@ fn sequences_of(asked: u32) -> impl Iterator<Item = u16> {
 #[cfg(test)]
 mod tests {
     use super::*;
+    use emupedestal::rtp::is_rtcp;
 
     /// RFC 4585, 6.2.1: PID 5 and a mask with bits 1 and 16 ask for 5, 6 and 21.
     #[test]
@@ -283,6 +275,6 @@ mod tests {
                 time: 0x3344_5566
             }]
         );
-        assert!(is_rtcp(compound.bytes()) && !is_rtcp(&[0x80, 96]) && !is_rtcp(&[0x80, 0xe0]));
+        assert!(is_rtcp(compound.bytes()));
     }
 }
