@@ -19,5 +19,6 @@ pub mod recording;
 pub mod report;
 pub mod standard;
 pub mod statistics;
+pub mod vvc;
 pub mod writer;
 pub mod written;

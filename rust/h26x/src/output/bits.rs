@@ -41,6 +41,16 @@ impl Bits {
         self.bits(1).map(|it| it == 1)
     }
 
+    /// How many bytes stand before the next bit, and those of which some bits do.
+    pub fn bytes_before(&self) -> usize {
+        self.place.div_ceil(8)
+    }
+
+    /// Passes over bits up to the next whole byte.
+    pub fn align(&mut self) {
+        self.place = self.place.next_multiple_of(8);
+    }
+
     pub fn skip(&mut self, count: usize) {
         self.place += count;
     }

@@ -1,4 +1,4 @@
-//! The boxes of an MP4 file (ISO/IEC 14496-12; 14496-15, 5.3 and 8.3).
+//! The boxes of an MP4 file (ISO/IEC 14496-12; 14496-15, 5.3, 8.3 and 11.2).
 
 /// A box that is written behind others, and which `fill` fills.
 pub fn put(to: &mut Vec<u8>, name: &[u8; 4], fill: impl FnOnce(&mut Vec<u8>)) {

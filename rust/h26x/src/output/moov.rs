@@ -3,6 +3,7 @@
 use crate::output::bits::Bits;
 use crate::output::boxes::{halves, put, put_full, words};
 use crate::output::picture_size::{self, HIGH, Picture};
+use crate::output::vvc;
 use emupedestal::Codec;
 use emupedestal::access_units::unit_type;
 
@@ -30,7 +31,10 @@ impl Track<'_> {
     fn picture(&self) -> Option<Picture> {
         match self.codec {
             Codec::H264 => self.of_type(7).find_map(|it| picture_size::of_h264(it)),
-            _ => self.of_type(33).find_map(|it| picture_size::of_h265(it)),
+            Codec::H265 => self.of_type(33).find_map(|it| picture_size::of_h265(it)),
+            Codec::H266 => self
+                .of_type(15)
+                .find_map(|it| vvc::read(it).map(|it| it.picture)),
         }
     }
 
@@ -39,7 +43,8 @@ impl Track<'_> {
         let picture = self.picture()?;
         let config = match self.codec {
             Codec::H264 => self.avc(&picture)?,
-            _ => self.hevc(&picture)?,
+            Codec::H265 => self.hevc(&picture)?,
+            Codec::H266 => self.vvc()?,
         };
         let mut front = Vec::new();
         put(&mut front, b"ftyp", |to| {
@@ -92,7 +97,8 @@ impl Track<'_> {
         // Parameter sets stand among the samples too.
         let (entry, name) = match self.codec {
             Codec::H264 => (b"avc3", b"avcC"),
-            _ => (b"hev1", b"hvcC"),
+            Codec::H265 => (b"hev1", b"hvcC"),
+            Codec::H266 => (b"vvi1", b"vvcC"),
         };
         put_full(to, b"stsd", 0, 0, |to| {
             words(to, &[1]);
@@ -156,15 +162,40 @@ impl Track<'_> {
         config.push(layers << 3 | (first & 1) << 2 | 3);
         config.push(3);
         for kind in [32, 33, 34] {
-            let sets: Vec<&Vec<u8>> = self.of_type(kind).filter(|it| it.len() <= 0xffff).collect();
-            if sets.is_empty() {
-                return None;
-            }
-            config.push(kind);
-            halves(&mut config, &[sets.len() as u16]);
-            put_sets(&mut config, &sets);
+            self.put_array(kind, &mut config).then_some(())?;
         }
         Some(config)
+    }
+
+    /// ISO/IEC 14496-15, 11.2.4.2, behind version and flags; profile, tier and level are those of the first set that
+    /// can be read. A stream needs no video parameter set.
+    fn vvc(&self) -> Option<Vec<u8>> {
+        let sps = self.of_type(15).find_map(|it| vvc::read(it))?;
+        let of_samples = u16::from(sps.sub_layers) << 4 | u16::from(sps.picture.chroma_format);
+        let mut config = vec![0, 0, 0, 0, 0xff];
+        halves(&mut config, &[of_samples]);
+        config.extend([sps.picture.more_luma_bits << 5 | 0x1f, sps.constraints]);
+        config.extend(&sps.profile);
+        let [width, height] = sps.coded.map(|it| u16::try_from(it).ok());
+        halves(&mut config, &[width?, height?, 0]);
+        let arrays = config.len();
+        config.push(2);
+        config[arrays] += u8::from(self.put_array(14, &mut config));
+        for kind in [15, 16] {
+            self.put_array(kind, &mut config).then_some(())?;
+        }
+        Some(config)
+    }
+
+    /// Puts the sets of a type behind that and their number; whether there are any.
+    fn put_array(&self, kind: u8, config: &mut Vec<u8>) -> bool {
+        let sets: Vec<&Vec<u8>> = self.of_type(kind).filter(|it| it.len() <= 0xffff).collect();
+        if !sets.is_empty() {
+            config.push(kind);
+            halves(config, &[sets.len() as u16]);
+            put_sets(config, &sets);
+        }
+        !sets.is_empty()
     }
 }
 

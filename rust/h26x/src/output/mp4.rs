@@ -16,6 +16,8 @@ const MOST_TICKS: i64 = 10 * TIME_SCALE as i64;
 const USUAL: i64 = 3600;
 const MOST_SETS: usize = 64;
 const MOST_SAMPLES: usize = 1 << 16;
+/// The type of a picture header of H.266 (7.4.2.2, table 5).
+const PICTURE_HEADER: u8 = 19;
 /// Flags of samples: one that depends on no other, and one that does and where nothing can begin (8.8.3).
 const KEYFRAME: u32 = 0x0200_0000;
 const OTHER: u32 = 0x0101_0000;
@@ -118,7 +120,7 @@ impl Mp4 {
             let len = u32::from_be_bytes(*len) as usize;
             let (unit, behind) = behind.split_at(len.min(behind.len()));
             let kind = unit_type(self.codec, unit);
-            begins |= kind.is_some_and(|it| is_slice_type(self.codec, it) && self.is_first(unit));
+            begins |= kind.is_some_and(|it| self.begins_picture(it, unit));
             let is_set = kind.is_some_and(|it| is_parameter_set_type(self.codec, it));
             if is_set && self.fragments == 0 {
                 self.keep(unit);
@@ -134,10 +136,13 @@ impl Mp4 {
         }
     }
 
-    /// Whether a slice is the first of its picture (H.264, 7.3.3: first_mb_in_slice is 0; H.265, 7.3.6.1).
-    fn is_first(&self, slice: &[u8]) -> bool {
+    /// Whether a picture begins with a unit of a type: with its first slice (H.264, 7.3.3: first_mb_in_slice is 0;
+    /// H.265, 7.3.6.1), or of H.266 with its header, which stands alone or in its only slice (7.3.7).
+    fn begins_picture(&self, kind: u8, unit: &[u8]) -> bool {
         let place = if self.codec == Codec::H264 { 1 } else { 2 };
-        slice.get(place).is_some_and(|it| it & 0x80 != 0)
+        let is_first = || unit.get(place).is_some_and(|it| it & 0x80 != 0);
+        let is_header = self.codec == Codec::H266 && kind == PICTURE_HEADER;
+        is_header || (is_slice_type(self.codec, kind) && is_first())
     }
 
     /// The front of the file, with those described sets of whose kind none came.

@@ -114,7 +114,7 @@ fn pass_sub_layers(bits: &mut Bits, count: u32) -> Option<()> {
 }
 
 /// How many samples of luma stand beside and above one of chroma.
-fn subsampling(chroma_format: u32) -> (u64, u64) {
+pub fn subsampling(chroma_format: u32) -> (u64, u64) {
     match chroma_format {
         1 => (2, 2),
         2 => (2, 1),
@@ -123,7 +123,7 @@ fn subsampling(chroma_format: u32) -> (u64, u64) {
 }
 
 /// How many samples are cut off in all of width and height.
-fn window(bits: &mut Bits, unit_x: u64, unit_y: u64) -> Option<(u64, u64)> {
+pub fn window(bits: &mut Bits, unit_x: u64, unit_y: u64) -> Option<(u64, u64)> {
     if !bits.flag()? {
         return Some((0, 0));
     }
@@ -132,7 +132,7 @@ fn window(bits: &mut Bits, unit_x: u64, unit_y: u64) -> Option<(u64, u64)> {
     Some(((left + right) * unit_x, (top + bottom) * unit_y))
 }
 
-fn picture(width: u64, height: u64, crop: (u64, u64), samples: [u32; 3]) -> Option<Picture> {
+pub fn picture(width: u64, height: u64, crop: (u64, u64), samples: [u32; 3]) -> Option<Picture> {
     let [chroma_format, luma, chroma] =
         samples.map(|it| u8::try_from(it).ok().filter(|it| *it < 8));
     Some(Picture {

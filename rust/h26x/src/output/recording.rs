@@ -39,7 +39,7 @@ impl Recording {
             codec,
             stream: known.stream,
             reception: Reception::new(codec, payload_type, &asked.looking, has_lengths),
-            writer: Writer::new(asked, codec, &path)?,
+            writer: Writer::new(asked, codec, &path),
             output: Output::create(&path, input)?,
             path,
             guise: known.guise(),

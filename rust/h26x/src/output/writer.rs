@@ -23,21 +23,17 @@ pub struct Writer {
 }
 
 impl Writer {
-    pub fn new(asked: &Receive, codec: Codec, path: &Path) -> Result<Self, Failure> {
+    pub fn new(asked: &Receive, codec: Codec, path: &Path) -> Self {
         let sets = &asked.looking.sets;
         let form = match asked.written {
-            Written::Mp4 if codec == Codec::H266 => {
-                let what = "H.266 can't be written as MP4; name a file that ends with .h266";
-                return Err(Failure::of(path, what));
-            }
             Written::Mp4 => Form::Mp4(Box::new(Mp4::new(codec, sets))),
             other => Form::Units(Sets::new(codec, sets, other.has_lengths())),
         };
-        Ok(Writer {
+        Writer {
             form,
             is_clean: asked.is_clean,
             path: path.into(),
-        })
+        }
     }
 
     /// Writes an access unit.
@@ -88,7 +84,7 @@ impl Writer {
 
     fn no_sets(&self) -> Failure {
         let what = "an MP4 file needs the parameter sets, and the stream has none that can be read; \
-            give its session description (--sdp), or name a file that ends with .h264 or .h265";
+            give its session description (--sdp), or name a file that ends with .h264, .h265 or .h266";
         Failure::of(&self.path, what)
     }
 

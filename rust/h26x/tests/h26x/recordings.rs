@@ -313,15 +313,61 @@ fn what_is_not_written() {
     folder
         .run(&["receive", "in.pcap", "out.mp4"])
         .says(1, &["an MP4 file needs the parameter sets"]);
-    let of_h266: Vec<Rtp> = (0..9)
-        .map(|at| Rtp::new(at, u32::from(at) * 90, true, &[0, 1, 0xc4, 1]))
-        .collect();
-    folder.write("h266.pcap", &pcap_with(&of_h266));
-    let words = ["receive", "h266.pcap", "out.mp4", "--codec", "h266"];
-    folder
-        .run(&words)
-        .says(1, &["H.266 can't be written as MP4"]);
-    assert_eq!(folder.names(), ["h266.pcap", "in.pcap"]);
+    assert_eq!(folder.names(), ["in.pcap"]);
+}
+
+/// Of H.266 the record has what its set says of one sub-layer, Main 10 at level 3.1, no constraints, 320 by 184 samples
+/// of ten bits, of which four lines are cut off (H.266, 7.3.2.4; ISO/IEC 14496-15, 11.2.4.2), and the sets.
+#[test]
+fn a_recording_of_h266() {
+    let sps: &[u8] = &[
+        0, 0x79, 0x00, 0x0d, 0x02, 0x33, 0x80, 0x00, 0x00, 0x28, 0x20, 0x2e, 0x7d, 0x9c,
+    ];
+    let pps: &[u8] = &[0, 0x81, 1, 2];
+    // An IDR picture and two others, each in a slice with its header.
+    let sent: [(u32, bool, &[u8]); 5] = [
+        (900, false, sps),
+        (900, false, pps),
+        (900, true, &[0, 0x39, 0x80, 1]),
+        (4500, true, &[0, 0x01, 0x80, 1]),
+        (8100, true, &[0, 0x01, 0x80, 1]),
+    ];
+    let packets = (0..).zip(sent);
+    let packets = packets.map(|(at, (time, marker, unit))| Rtp::new(at, time, marker, unit));
+    let folder = Folder::new();
+    folder.write("in.pcap", &pcap_with(&packets.collect::<Vec<Rtp>>()));
+    let words = ["receive", "in.pcap", "out.mp4", "--codec", "h266"];
+    folder.run(&words).says(0, &["3 access units, 1 keyframe"]);
+    let file = folder.read("out.mp4");
+    let place = |name: &[u8]| file.windows(4).position(|it| it == name).expect("a box");
+    let entry = place(b"vvi1");
+    assert_eq!(file[entry + 28..entry + 32], [1, 0x40, 0, 180]);
+    let record = [
+        &[
+            0, 0, 0, 0, 0xff, 0, 0x11, 0x5f, 1, 2, 0x33, 0x80, 0, 1, 0x40, 0, 0xb8, 0, 0,
+        ][..],
+        &[2, 15, 0, 1, 0, sps.len() as u8],
+        sps,
+        &[16, 0, 1, 0, pps.len() as u8],
+        pps,
+    ]
+    .concat();
+    assert!(file[place(b"vvcC") + 4..].starts_with(&record));
+    let samples = samples(&file);
+    let shown: Vec<i64> = samples.iter().map(|it| it.shown).collect();
+    assert_eq!(shown, [0, 3600, 7200]);
+    assert!(samples[0].is_key && !samples[1].is_key);
+    assert_eq!(samples[1].bytes, [0, 0, 0, 4, 0, 1, 0x80, 1]);
+    // FFmpeg reads the samples, also where it doesn't know the codec.
+    let mut ffprobe = Command::new("ffprobe");
+    ffprobe.args("-v quiet -of csv=p=0 -show_entries packet=pts,size".split(' '));
+    let Ok(ran) = ffprobe.arg(folder.path("out.mp4")).output() else {
+        eprintln!("left out, since ffprobe is missing");
+        return;
+    };
+    let sets = 8 + sps.len() + pps.len();
+    let wanted = format!("0,{}\n3600,8\n7200,8\n", sets + 8);
+    assert_eq!(String::from_utf8_lossy(&ran.stdout), wanted);
 }
 
 /// Of a slice, a keyframe with its parameter sets, a slice, a gap and a slice the keyframe and what follows it are clean.
