@@ -30,7 +30,7 @@ const DRAWN: u64 = 100;
 /// Deflate makes no more of a byte (RFC 1951).
 const UNPACKED: u64 = 1032;
 
-const COMMANDS: [Command; 17] = [
+const COMMANDS: [Command; 19] = [
     (&["inspect", IN, "--json"], 0),
     (&["inspect", IN, "--json", "--all"], 0),
     (
@@ -122,6 +122,21 @@ const COMMANDS: [Command; 17] = [
         &["inspect", IN, "--html", "out/a", "--json", "--summary"],
         DRAWN,
     ),
+    (
+        &[
+            "receive",
+            IN,
+            "out/a.mp4",
+            "--codec",
+            "h266",
+            "--rtx",
+            "97=98",
+            "--red",
+            "98",
+        ],
+        RECORDED,
+    ),
+    (&["receive", IN, OUT, "--all", "--rtx", "97=96"], OF_ALL),
 ];
 
 /// What the program writes whatever comes: a capture's header, a description, an object of JSON.
