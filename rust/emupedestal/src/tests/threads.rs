@@ -20,6 +20,13 @@ fn all_types_may_be_shared_between_threads() {
     each!(SequencedDepacketizer, Received, Packets, PacketIter, Units);
     each!(AccessUnitAssembler, ReorderBuffer, Pushed);
     each!(AccessUnit, RtpPacket, HeldPacket);
+    each!(
+        rtp::RtpDatagram,
+        rtp::RtpElements,
+        rtp::RtxPayload,
+        rtp::RedPayload,
+        rtp::RedBlocks
+    );
     each!(Codec, CodecExtra, PacketError);
     each!(H264CodecExtra, H265CodecExtra, H266CodecExtra);
     each!(H265Payload, H265SingleNALUnitPacket, H265PACIPacket);
