@@ -77,19 +77,26 @@ fn text_of(path: &Path) -> Result<String, Failure> {
     Ok(String::from_utf8_lossy(&bytes).into_owned())
 }
 
-/// The payload types of H.264, H.265 and H.266 in a description, in their order.
+/// The payload types of H.264, H.265 and H.266 in a description, in the order of its media and of the lists there, where
+/// the one that is preferred stands first (RFC 3264, 5.1).
 fn offered(text: &str) -> Vec<Offered<'_>> {
     let mut offered = Vec::new();
     let lines: Vec<&str> = text.lines().map(str::trim).collect();
+    // What stands before all media is of each.
+    let session = lines.iter().take_while(|it| !it.starts_with("m="));
+    let session: Vec<&str> = session.copied().collect();
     for media in lines.chunk_by(|_, line| !line.starts_with("m=")) {
         let port = media[0].strip_prefix("m=").and_then(port_of);
-        let types = PayloadTypes::of_media(media);
+        let types = PayloadTypes::of_media(&[&session, media].concat());
         let values = |name| media.iter().filter_map(move |line| line.strip_prefix(name));
         let mut formats = HashMap::new();
         for (payload_type, format) in values("a=fmtp:").filter_map(format_of) {
             formats.entry(payload_type).or_insert(format);
         }
-        for map in values("a=rtpmap:").filter_map(|it| it.parse::<RtpMap>().ok()) {
+        let maps = values("a=rtpmap:").filter_map(|it| it.parse::<RtpMap>().ok());
+        let mut maps: Vec<RtpMap> = maps.collect();
+        maps.sort_by_key(|it| preference(media[0], it.payload_type()));
+        for map in maps {
             let format = formats.get(&map.payload_type());
             offered.push(Offered {
                 map,
@@ -109,6 +116,13 @@ fn port_of(media: &str) -> Option<u16> {
     let protocol = words.next().unwrap_or_default();
     let is_by_ice = BY_ICE.iter().any(|it| protocol.starts_with(it));
     (!is_by_ice && !NO_PORTS.contains(&port)).then_some(port)
+}
+
+/// The place of a payload type in the list of a media, as in `video 5004 RTP/AVP 97 96`; behind all where it has none.
+fn preference(media: &str, payload_type: u8) -> usize {
+    let mut listed = media.split_ascii_whitespace().skip(3);
+    let place = listed.position(|it| it.parse() == Ok(payload_type));
+    place.unwrap_or(usize::MAX)
 }
 
 /// The payload type of a line, and what stands behind it.

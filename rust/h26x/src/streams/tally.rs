@@ -19,7 +19,7 @@ pub struct Tally {
     pub bytes: u64,
     pub late: u64,
     pub twice: u64,
-    /// Packets that came by RTX alone, and such that had come or were no longer waited for.
+    /// Packets that came by RTX first, and such that had come or were no longer waited for.
     pub recovered: u64,
     pub again: u64,
     /// Packets of forward error correction among those of the stream.

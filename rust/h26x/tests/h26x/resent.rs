@@ -249,6 +249,10 @@ fn two_streams() {
     let of = |ssrc: &'static str| ["--ssrc", ssrc];
     receives(&came, &names, &of("0x01020304"), &all)[0].says(0, &["recovered by RTX"]);
     receives(&came, &names, &of("0x0a0b0c0d"), &without)[0].says(3, &["lost: 1 packet"]);
+    // The same, said of the whole session.
+    let (media, extensions) = names.split_once("a=extmap").expect("extensions");
+    let session = format!("v=0\r\na=extmap{extensions}{}", &media["v=0\r\n".len()..]);
+    receives(&came, &session, &of("0x01020304"), &all)[0].says(0, &["recovered by RTX"]);
     for ssrc in ["0x01020304", "0x0a0b0c0d"] {
         let [received, _] = receives(&came, &description(""), &of(ssrc), &without);
         received.says(3, &["lost: 1 packet", "0x05060708"]);

@@ -190,8 +190,16 @@ fn the_stream_that_is_described() {
     ));
     assert_eq!(written(&[]), [0x61, 0x88, 2]);
     assert_eq!(written(&["--payload-type", "96"]), [0x65, 0x88, 1]);
-    // A port that says nothing, and one that another replaces.
-    for port in ["0", "9"] {
+    // The one that is preferred stands first in the list (RFC 3264, 5.1), wherever its lines are.
+    for (list, unit) in [("97 96", [0x61, 0x88, 2]), ("96 97", [0x65, 0x88, 1])] {
+        for lines in [[first, second], [second, first]] {
+            let lines = lines.concat();
+            describe(&format!("m=video 5004 RTP/AVP {list}\n{lines}"));
+            assert_eq!(written(&[]), unit);
+        }
+    }
+    // A port that says nothing, and one that another replaces; with ICE none says anything.
+    for port in ["0", "9", "41380"] {
         describe(&format!("m=video {port} UDP/TLS/RTP/SAVPF 97\r\n{second}"));
         assert_eq!(written(&[]), [0x61, 0x88, 2]);
     }
