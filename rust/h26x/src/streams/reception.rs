@@ -20,6 +20,7 @@ use emupedestal::access_unit_receiver::{
     AccessUnitConfig, AccessUnitReceiver, Counts, Pushed, ReceivedAccessUnit,
 };
 use emupedestal::{Codec, CodecExtra, PacketError, RtpPacket, SequencedDepacketizer};
+use std::collections::HashSet;
 
 /// A number is far where it is so much ahead of the one that is due, or so much behind (RFC 3550, A.1).
 const FAR: u16 = 3000;
@@ -78,6 +79,8 @@ pub struct Reception {
     runs: Runs,
     numbers: Numbers,
     types: PayloadTypes,
+    /// Numbers of packets that RTX brought, and which may still come by themselves.
+    recovered: HashSet<u16>,
     tally: Tally,
 }
 
@@ -115,6 +118,7 @@ impl Reception {
             runs: Runs::new(codec, has_donl, run_limit),
             numbers: Numbers::new(codec, has_donl),
             types: looking.types.clone(),
+            recovered: HashSet::new(),
             tally: Tally::new(!looking.sets.is_empty()),
         }
     }
@@ -147,8 +151,10 @@ impl Reception {
             return self.take_far(packet, tell);
         }
         match self.push(packet)? {
-            Pushed::Late(behind) => self.take_late(packet, behind, tell),
-            Pushed::Twice => {
+            Pushed::Late(behind) if !self.recovered.remove(&sequence) => {
+                self.take_late(packet, behind, tell)
+            }
+            Pushed::Late(_) | Pushed::Twice => {
                 self.tally.twice += 1;
                 tell(Told::Twice(sequence))
             }
@@ -313,7 +319,12 @@ impl Reception {
         self.tally.packet(packet);
         let is_moved = is_moved && !packet.is_resent;
         self.tally.moved += u64::from(is_moved);
-        self.tally.recovered += u64::from(packet.is_resent);
+        if packet.is_resent {
+            self.tally.recovered += 1;
+            self.recovered.insert(sequence);
+        } else if !self.recovered.is_empty() {
+            self.recovered.remove(&sequence);
+        }
         let lost = std::mem::take(&mut self.lost);
         self.tally.miss(sequence, lost);
         let fate = Fate {

@@ -166,6 +166,28 @@ fn retransmissions() {
     receives(&came, "", &[], &without)[0].says(3, &["lost: 1 packet: 1 before 4"]);
 }
 
+/// A hundred packets that come late, each behind its retransmission, came twice, and their sender doesn't begin anew.
+#[test]
+fn packets_that_come_behind_their_retransmissions() {
+    let all = media(0..400);
+    let held_up = &all[100..200];
+    let mut came = all[..100].to_vec();
+    came.extend_from_slice(&all[200..300]);
+    came.extend((0..).zip(held_up).map(|(at, it)| it.again(at)));
+    came.extend_from_slice(&all[300..]);
+    came.extend_from_slice(held_up);
+    let [received, inspected] = receives(&came, "", &["--rtx", "97=96"], &all);
+    let said = [
+        "100 packets: recovered by RTX (RFC 4588)",
+        "100 packets: passed over, come twice",
+        "400 packets of 2000 bytes",
+    ];
+    received.says(0, &said);
+    inspected.says(0, &said);
+    assert!(!received.err.contains("began anew"), "{received:#?}");
+    assert!(!received.err.contains("too late"), "{received:#?}");
+}
+
 /// What JSON says of it, and a page.
 #[test]
 fn retransmissions_in_json() {
