@@ -16,8 +16,8 @@ use crate::codec::Codec;
 use crate::formats;
 use h26x_core::{CodecExtra, Depacketizer, PacketError};
 use h26x_depacketizer::{
-    OpenRun, OpenText, PacketReader, RunDepacketizer, RunRule, UnitSink, out_size_hint, starts_run,
-    take_in_text, take_packet,
+    OpenRun, OpenText, PacketReader, RunDepacketizer, RunRule, UnitSink, UnitTest, bears_unit,
+    first_unit_begun, out_size_hint, starts_run, take_in_text, take_packet,
 };
 use h26x_payload::{DonlFormat, PayloadFormat};
 use h264_payload::H264;
@@ -347,6 +347,32 @@ impl RunDepacketizer for AnyPayloadDepacketizer {
             Codec::H264 => starts_run(H264::new(), packet),
             Codec::H265 => starts_run(H265::new().with_donl(dons), packet),
             Codec::H266 => starts_run(H266::new().with_donl(dons), packet),
+        }
+    }
+
+    fn extra(&self, key: bool) -> CodecExtra {
+        match self.codec {
+            Codec::H264 => H264::new().extra(key),
+            Codec::H265 => H265::new().extra(key),
+            Codec::H266 => H266::new().extra(key),
+        }
+    }
+
+    fn bears_unit<T: UnitTest>(&self, packet: &[u8], test: &T) -> bool {
+        let dons = self.has_donl;
+        match self.codec {
+            Codec::H264 => bears_unit(H264::new(), packet, test),
+            Codec::H265 => bears_unit(H265::new().with_donl(dons), packet, test),
+            Codec::H266 => bears_unit(H266::new().with_donl(dons), packet, test),
+        }
+    }
+
+    fn first_unit_begun(&self, packet: &[u8]) -> Option<[u8; 3]> {
+        let dons = self.has_donl;
+        match self.codec {
+            Codec::H264 => first_unit_begun(H264::new(), packet),
+            Codec::H265 => first_unit_begun(H265::new().with_donl(dons), packet),
+            Codec::H266 => first_unit_begun(H266::new().with_donl(dons), packet),
         }
     }
 }

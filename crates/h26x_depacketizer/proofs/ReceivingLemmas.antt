@@ -1,5 +1,5 @@
 -- A reading brings what it is taken as.
-use Rattle.std.proofs.Common.{◌≡◌, ℕ, Bool, true, false, List, [], ◌∷◌, map, Option, Some, None, Result, refl, ap, ◌∙◌}
+use Rattle.std.proofs.Common.{◌≡◌, ℕ, Bool, true, false, List, [], ◌∷◌, map, Option, Some, None, Result, refl, sym, ap, ◌∙◌}
 use Rattle.std.specs.Prelude.{◌&&◌}
 use Rattle.std.specs.List.{list_any}
 use Rattle.h26x_core.specs.declared.error.PacketError.{PacketError}
@@ -11,6 +11,7 @@ use Rattle.h26x_depacketizer.specs.declared.parts.Parts.{Parts}
 use Rattle.h26x_depacketizer.specs.declared.parts.Parts.TheVariants as p
 use Rattle.h26x_depacketizer.specs.Run.{IsWriteOutcome}
 use Rattle.h26x_depacketizer.specs.DepacketizerView.{taken_as, parts_reading}
+use Rattle.h26x_depacketizer.specs.Look.{borne_units, begun_units}
 
 -- numbers put away from units leave the units
 units_again : (units : List (List ℕ × Option ℕ)) → map (λ (u : List ℕ × Option ℕ). u.0) (map (λ (u : List ℕ × Option ℕ). without_don u.0) units) ≡ map (λ (u : List ℕ × Option ℕ). u.0) units
@@ -77,3 +78,19 @@ taken_refused (Aggregate units) error is = absurd cc
 taken_refused (Fragment start end head don body) error is = absurd cc
 taken_refused (Paci head fields extension body) error is = absurd cc
 taken_refused (Refused other) error is = is
+
+-- it bears something of the units of what it is taken as
+pub taken_bears : (reading other : Reading) → taken_as reading ≡ other → borne_units reading ≡ borne_units other
+taken_bears (Single unit don) other same = ap borne_units same
+taken_bears (Aggregate units) other same = sym (units_again units) ∙ ap borne_units same
+taken_bears (Fragment start end head don body) other same = ap borne_units same
+taken_bears (Paci head fields extension body) other same = ap borne_units same
+taken_bears (Refused error) other same = ap borne_units same
+
+-- and begins them
+pub taken_begins : (reading other : Reading) → taken_as reading ≡ other → begun_units reading ≡ begun_units other
+taken_begins (Single unit don) other same = ap begun_units same
+taken_begins (Aggregate units) other same = sym (units_again units) ∙ ap begun_units same
+taken_begins (Fragment start end head don body) other same = ap begun_units same
+taken_begins (Paci head fields extension body) other same = ap begun_units same
+taken_begins (Refused error) other same = ap begun_units same

@@ -1,5 +1,6 @@
 pub mod AccessUnit
 pub mod DepacketizerView
+pub mod Look
 pub mod OpenText
 pub mod Run
 pub mod RunDepacketizer

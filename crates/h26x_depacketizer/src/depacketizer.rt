@@ -224,6 +224,14 @@ impl<C: PacketReader, S: Shows<C>> PayloadDepacketizer<C, S> {
         Ok(())
     }
 
+    /// Its setting.
+    #[inline]
+    pub(crate) fn codec(&self) -> C
+        ensures { result ≡ self.now.codec }
+    {
+        self.codec
+    }
+
     /// Whether a packet is a fragment that starts, which gives up a run that is open.
     pub fn starts_run(&self, packet: &[u8]) -> bool
         ensures { result ≡ is_start ((C.format self.now.codec).read packet.now) }

@@ -1,17 +1,21 @@
 //! What a receiver of packets with their sequence numbers asks of a depacketizer.
 
 ghost use Rattle.std.specs.Prelude.{◌≡◌, false, [], ◌∷◌, ℕ, List, Option, None, OnOk, OnErr, refl};
+ghost use Rattle.std.specs.List.{list_any};
+ghost use Rattle.std.specs.Option.{option_map};
 ghost use Rattle.h26x_model.specs.Payload.Facts.{IsPayloadFormat};
 ghost use Rattle.h26x_model.specs.Payload.Reading.{is_start};
 ghost use Rattle.h26x_model.specs.Receive.DepacketizerState.{DepacketizerState, depacketization, after_packets, IsPacketOutcome};
 ghost use Rattle.h26x_model.specs.Receive.RunLimit.{run_len, state_with_run};
 ghost use Rattle.h26x_depacketizer.specs.DepacketizerView.{depacketizer_state};
+ghost use Rattle.h26x_depacketizer.specs.Look.{first_bytes, borne_units, begun_units, first_unit_of};
 ghost use Rattle.h26x_depacketizer.specs.OpenText.{IsSameText, text_depacketization, met_depacketization};
 ghost use Rattle.h26x_depacketizer.specs.UnitSink.{bytes_brought, grown_to, TellsRoom};
 ghost use Rattle.h26x_depacketizer.specs.RunDepacketizer.{IsSameBesideRun};
 
 use crate::depacketizer::PayloadDepacketizer;
 use crate::in_text::RunRule;
+use crate::look::{UnitTest, bears_unit, first_unit_begun};
 use crate::open_text::OpenText;
 use crate::reader::PacketReader;
 use crate::run::OpenRun;
@@ -103,6 +107,22 @@ pub trait RunDepacketizer: Depacketizer {
     fn starts_run(&self, packet: &[u8]) -> bool
         ensures { result ≡ is_start ((state self.now).format.read packet.now) };
 
+    /// What it tells of units, with one of a key type among them or not.
+    fn extra(&self, key: bool) -> CodecExtra
+        ensures { result ≡ (state self.now).format.extra key };
+
+    /// Whether it is so of a unit of which a packet bears something: of a fragment that doesn't start
+    /// its unit by the header alone. None is borne by a packet that is refused. It takes no memory.
+    fn bears_unit<T: UnitTest>(&self, packet: &[u8], test: &T) -> bool
+        ensures { result ≡ list_any (λ unit. T.holds test.now (first_bytes unit))
+            (borne_units ((state self.now).format.read packet.now)) };
+
+    /// The first three bytes of the first unit that a packet begins, if it begins one, zeros behind
+    /// its end. It takes no memory.
+    fn first_unit_begun(&self, packet: &[u8]) -> Option<[u8; 3]>
+        ensures { result ≡ option_map first_bytes
+            (first_unit_of (begun_units ((state self.now).format.read packet.now))) };
+
     // With another run all else is the same, and with its own run it is itself.
     ghost other_run: { (run : Option (List ℕ)) (it : Self) →
         state (with_run run it) ≡ state_with_run (state it) run };
@@ -190,5 +210,17 @@ impl<C: PacketReader, S: Shows<C>> RunDepacketizer for PayloadDepacketizer<C, S>
 
     fn starts_run(&self, packet: &[u8]) -> bool {
         self.starts_run(packet)
+    }
+
+    fn extra(&self, key: bool) -> CodecExtra {
+        self.codec().extra(key)
+    }
+
+    fn bears_unit<T: UnitTest>(&self, packet: &[u8], test: &T) -> bool {
+        bears_unit(self.codec(), packet, test)
+    }
+
+    fn first_unit_begun(&self, packet: &[u8]) -> Option<[u8; 3]> {
+        first_unit_begun(self.codec(), packet)
     }
 }

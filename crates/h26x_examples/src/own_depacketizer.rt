@@ -7,7 +7,7 @@ ghost use Rattle.h26x_depacketizer.specs.DepacketizerView.{depacketizer_state};
 ghost use Rattle.h264_payload.specs.H264.{h264};
 
 use h26x_core::{CodecExtra, Depacketizer, PacketError};
-use h26x_depacketizer::{OpenRun, OpenText, RunDepacketizer, RunRule, UnitSink};
+use h26x_depacketizer::{OpenRun, OpenText, RunDepacketizer, RunRule, UnitSink, UnitTest};
 use h26x_receiver::SequencedDepacketizer;
 use h264_payload::H264Depacketizer;
 use std::alloc::Global;
@@ -106,6 +106,18 @@ impl RunDepacketizer for CountingDepacketizer {
 
     fn starts_run(&self, packet: &[u8]) -> bool {
         self.depacketizer.starts_run(packet)
+    }
+
+    fn extra(&self, key: bool) -> CodecExtra {
+        self.depacketizer.extra(key)
+    }
+
+    fn bears_unit<T: UnitTest>(&self, packet: &[u8], test: &T) -> bool {
+        self.depacketizer.bears_unit(packet, test)
+    }
+
+    fn first_unit_begun(&self, packet: &[u8]) -> Option<[u8; 3]> {
+        self.depacketizer.first_unit_begun(packet)
     }
 }
 

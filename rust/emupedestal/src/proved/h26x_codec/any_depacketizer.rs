@@ -4,7 +4,9 @@
 
 use crate::proved::h26x_codec::codec::Codec;
 use crate::proved::h26x_core::{CodecExtra, Depacketizer, PacketError};
-use crate::proved::h26x_depacketizer::{OpenRun, OpenText, RunDepacketizer, RunRule, UnitSink};
+use crate::proved::h26x_depacketizer::{
+    OpenRun, OpenText, RunDepacketizer, RunRule, UnitSink, UnitTest,
+};
 use crate::proved::h264_payload::H264Depacketizer;
 use crate::proved::h265_packets::H265Payload;
 use crate::proved::h265_payload::H265Depacketizer;
@@ -229,6 +231,30 @@ impl RunDepacketizer for AnyDepacketizer {
             AnyDepacketizer::H264(it) => it.starts_run(packet),
             AnyDepacketizer::H265(it) => it.starts_run(packet),
             AnyDepacketizer::H266(it) => it.starts_run(packet),
+        }
+    }
+
+    fn extra(&self, key: bool) -> CodecExtra {
+        match self {
+            AnyDepacketizer::H264(it) => it.extra(key),
+            AnyDepacketizer::H265(it) => it.extra(key),
+            AnyDepacketizer::H266(it) => it.extra(key),
+        }
+    }
+
+    fn bears_unit<T: UnitTest>(&self, packet: &[u8], test: &T) -> bool {
+        match self {
+            AnyDepacketizer::H264(it) => it.bears_unit(packet, test),
+            AnyDepacketizer::H265(it) => it.bears_unit(packet, test),
+            AnyDepacketizer::H266(it) => it.bears_unit(packet, test),
+        }
+    }
+
+    fn first_unit_begun(&self, packet: &[u8]) -> Option<[u8; 3]> {
+        match self {
+            AnyDepacketizer::H264(it) => it.first_unit_begun(packet),
+            AnyDepacketizer::H265(it) => it.first_unit_begun(packet),
+            AnyDepacketizer::H266(it) => it.first_unit_begun(packet),
         }
     }
 }

@@ -132,6 +132,12 @@ impl<C: PacketReader, S: Shows<C>> PayloadDepacketizer<C, S> {
         Ok(())
     }
 
+    /// Its setting.
+    #[inline]
+    pub(crate) fn codec(&self) -> C {
+        self.codec
+    }
+
     /// Whether a packet is a fragment that starts, which gives up a run that is open.
     pub fn starts_run(&self, packet: &[u8]) -> bool {
         starts_run(self.codec, packet)

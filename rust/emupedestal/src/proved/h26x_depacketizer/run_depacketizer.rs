@@ -5,6 +5,7 @@
 use crate::proved::h26x_core::{CodecExtra, Depacketizer, PacketError};
 use crate::proved::h26x_depacketizer::depacketizer::PayloadDepacketizer;
 use crate::proved::h26x_depacketizer::in_text::RunRule;
+use crate::proved::h26x_depacketizer::look::{UnitTest, bears_unit, first_unit_begun};
 use crate::proved::h26x_depacketizer::open_text::OpenText;
 use crate::proved::h26x_depacketizer::reader::PacketReader;
 use crate::proved::h26x_depacketizer::run::OpenRun;
@@ -50,6 +51,17 @@ pub trait RunDepacketizer: Depacketizer {
 
     /// Whether a packet is a fragment that starts, which gives up a run that is open.
     fn starts_run(&self, packet: &[u8]) -> bool;
+
+    /// What it tells of units, with one of a key type among them or not.
+    fn extra(&self, key: bool) -> CodecExtra;
+
+    /// Whether it is so of a unit of which a packet bears something: of a fragment that doesn't start
+    /// its unit by the header alone. None is borne by a packet that is refused. It takes no memory.
+    fn bears_unit<T: UnitTest>(&self, packet: &[u8], test: &T) -> bool;
+
+    /// The first three bytes of the first unit that a packet begins, if it begins one, zeros behind
+    /// its end. It takes no memory.
+    fn first_unit_begun(&self, packet: &[u8]) -> Option<[u8; 3]>;
 }
 
 /// Removes the open run, for a packet that is to be taken without it. Where none is open a
@@ -103,5 +115,17 @@ impl<C: PacketReader, S: Shows<C>> RunDepacketizer for PayloadDepacketizer<C, S>
 
     fn starts_run(&self, packet: &[u8]) -> bool {
         self.starts_run(packet)
+    }
+
+    fn extra(&self, key: bool) -> CodecExtra {
+        self.codec().extra(key)
+    }
+
+    fn bears_unit<T: UnitTest>(&self, packet: &[u8], test: &T) -> bool {
+        bears_unit(self.codec(), packet, test)
+    }
+
+    fn first_unit_begun(&self, packet: &[u8]) -> Option<[u8; 3]> {
+        first_unit_begun(self.codec(), packet)
     }
 }

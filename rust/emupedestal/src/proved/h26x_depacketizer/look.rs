@@ -1,0 +1,85 @@
+// Made from crates/h26x_depacketizer/src/look.rt by tools/to-rust.
+
+//! What a packet shows of the NAL units of which it bears something, before it is taken (RFC 6184, 5;
+//! RFC 7798, 4.4; RFC 9328, 4.3).
+
+use crate::proved::h26x_depacketizer::aggregate::Aggregate;
+use crate::proved::h26x_depacketizer::parts::Parts;
+use crate::proved::h26x_depacketizer::reader::PacketReader;
+use crate::proved::h26x_payload::PayloadFormat;
+
+/// A question about a NAL unit that its first three bytes answer, which are zeros behind its end.
+pub trait UnitTest {
+    /// Whether it is so of a unit that begins with these bytes.
+    fn holds(&self, first: [u8; 3]) -> bool;
+}
+
+/// The byte at a place, 0 behind the end.
+#[inline]
+fn byte_at(bytes: &[u8], place: usize) -> u8 {
+    if place < bytes.len() { bytes[place] } else { 0 }
+}
+
+/// The first bytes of a unit.
+#[inline]
+fn first_bytes(unit: &[u8]) -> [u8; 3] {
+    [byte_at(unit, 0), byte_at(unit, 1), byte_at(unit, 2)]
+}
+
+/// The first bytes of a unit with this header and what stands behind it.
+#[inline]
+fn first_bytes_of<C: PayloadFormat>(codec: C, head: [u8; 2], body: &[u8]) -> [u8; 3] {
+    match codec.header_len() {
+        0 => first_bytes(body),
+        1 => [head[0], byte_at(body, 0), byte_at(body, 1)],
+        _ => [head[0], head[1], byte_at(body, 0)],
+    }
+}
+
+/// Whether it is so of one of the units of an aggregate's bytes.
+fn holds_unit<A: Aggregate, T: UnitTest>(codec: A, bytes: &[u8], test: &T) -> bool {
+    let mut rest = bytes;
+    while let Some((unit, behind)) = codec.first_unit(rest) {
+        if test.holds(first_bytes(unit)) {
+            return true;
+        }
+        rest = behind;
+    }
+    false
+}
+
+/// The first bytes of the first of the units of an aggregate's bytes, if one stands there.
+fn first_unit_in<A: Aggregate>(codec: A, bytes: &[u8]) -> Option<[u8; 3]> {
+    match codec.first_unit(bytes) {
+        Some((unit, _)) => Some(first_bytes(unit)),
+        None => None,
+    }
+}
+
+/// Whether it is so of a unit of which a packet bears something: of a fragment that doesn't start its
+/// unit by the header alone. None is borne by a packet that is refused. It takes no memory.
+pub fn bears_unit<C: PacketReader, T: UnitTest>(codec: C, packet: &[u8], test: &T) -> bool {
+    match codec.read(packet) {
+        Ok(Parts::Whole) => test.holds(first_bytes(packet)),
+        Ok(Parts::Unit { head, body }) => test.holds(first_bytes_of(codec, head, body)),
+        Ok(Parts::Aggregate { bytes, .. }) => holds_unit(codec, bytes, test),
+        Ok(Parts::Fragment(fragment)) => {
+            let body = if fragment.start { fragment.body } else { &[] };
+            test.holds(first_bytes_of(codec, fragment.head, body))
+        }
+        Err(_) => false,
+    }
+}
+
+/// The first bytes of the first unit that a packet begins, if it begins one. It takes no memory.
+pub fn first_unit_begun<C: PacketReader>(codec: C, packet: &[u8]) -> Option<[u8; 3]> {
+    match codec.read(packet) {
+        Ok(Parts::Whole) => Some(first_bytes(packet)),
+        Ok(Parts::Unit { head, body }) => Some(first_bytes_of(codec, head, body)),
+        Ok(Parts::Aggregate { bytes, .. }) => first_unit_in(codec, bytes),
+        Ok(Parts::Fragment(fragment)) if fragment.start => {
+            Some(first_bytes_of(codec, fragment.head, fragment.body))
+        }
+        Ok(Parts::Fragment(_)) | Err(_) => None,
+    }
+}
