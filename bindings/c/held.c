@@ -1,7 +1,7 @@
 /* How much memory a peer can make a receiver hold, by packets that no packetizer sends: aggregates in which each unit
  * is long once, of many units and of empty ones, units that never end, and whatever has no room in the caller's
- * memory; and how much a packetizer takes for a long unit and for many short ones. Says the most that was held; past
- * the limits it ends with status 1.
+ * memory; how much a packetizer takes for a long unit and for many short ones; and how much a receiver of access units
+ * keeps of a long one. Says the most that was held; past the limits it ends with status 1.
  * Link with -Wl,--wrap=malloc,--wrap=realloc,--wrap=free. */
 #include "h26x.h"
 #include <malloc.h>
@@ -211,6 +211,46 @@ static void check_sending(uint32_t codec, size_t unit)
     }
 }
 
+/* An access unit of LONG packets, and short ones. */
+enum { LONG = 64, SHORT = 65 };
+
+static void check_kept(uint32_t codec)
+{
+    const h26x_access_units_config config = {
+        .codec = codec, .window = 64, .held_limit = 1 << 20, .run_limit = 1 << 20, .unit_limit = SIZE_MAX};
+    static uint8_t text[(LONG + 1) * PACKET];
+    h26x_access_units u;
+    h26x_access_unit unit;
+    uint32_t pushed;
+    uint16_t behind, sequence = 0;
+    size_t given = 0;
+    if (h26x_access_units_new(&config, &u) != H26X_OK)
+        exit(1);
+    for (int i = 0; i < LONG + SHORT; i++) {
+        const size_t len = single(codec, i < LONG ? PACKET : 100);
+        const uint32_t timestamp = i < LONG ? 0 : (uint32_t)i;
+        if (codec != H26X_H264)
+            packet[1] = 1; /* the base layer, whose slices let a marker end an access unit */
+        if (h26x_access_units_push(&u, 0, sequence++, timestamp, i >= LONG - 1, packet, len, &pushed, &behind)
+            != H26X_OK)
+            exit(1);
+        while (h26x_access_units_next(&u, 0, text, sizeof text, &unit) == H26X_OK)
+            given++;
+    }
+    const size_t kept = held;
+    if (h26x_access_units_restart(&u) != H26X_OK)
+        exit(1);
+    printf("%s: %zu bytes kept behind %zu access units, %zu after a restart; %d may be\n", h26x_codec_name(codec), kept,
+           given, held, SMALL);
+    if (given != SHORT + 1 || kept > SMALL || held > SMALL) {
+        fprintf(stderr, "held.c: that is too much, or not what was given\n");
+        exit(1);
+    }
+    h26x_access_units_free(u);
+    if (held != 0)
+        exit(1);
+}
+
 int main(void)
 {
     /* Its own memory is the system's, and none of it is counted. */
@@ -222,6 +262,7 @@ int main(void)
     for (uint32_t codec = H26X_H264; codec <= H26X_H266; codec++) {
         check_sending(codec, PAYLOAD);
         check_sending(codec, UNIT);
+        check_kept(codec);
     }
     return 0;
 }

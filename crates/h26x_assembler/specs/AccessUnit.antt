@@ -1,6 +1,6 @@
 -- Access units of packets with their timestamps and markers (RFC 3550, 5.1; RFC 6184, 5.1; RFC 7798,
 -- 4.1; RFC 9328, 4.1; ours).
-use Rattle.std.specs.Prelude.{◌≡◌, ℕ, ◌==◌, nat_lt, Bool, true, false, ◌&&◌, ◌||◌, if◌then◌else◌, List, [], ◌∷◌, ◌++◌, length, map, Option, Some, None, is_some, Result, Ok, Err, ◌⊎◌, ◌<◌, ◌^◌}
+use Rattle.std.specs.Prelude.{◌≡◌, ℕ, ◌==◌, nat_lt, Bool, true, false, not, ◌&&◌, ◌||◌, if◌then◌else◌, List, [], ◌∷◌, ◌++◌, length, map, Option, Some, None, is_some, Result, Ok, Err, ◌⊎◌, ◌<◌, ◌^◌}
 use Rattle.std.specs.Option.{option_map}
 use Rattle.h26x_core.specs.declared.extra.CodecExtra.{CodecExtra}
 use Rattle.h26x_core.specs.declared.extra.CodecExtra.TheVariants as extras
@@ -342,6 +342,16 @@ UnitSkipsInOrder s = (number : ℕ) → number < 2 ^ 16 → is_expected s.expect
 -- nothing
 abbrev pub after_pass_over : Assembly → ℕ → Assembly
 after_pass_over s number = if is_late s.expected number then s else behind_missing s number
+
+-- what stands once the access unit that is open ended by itself: it is known to be whole only if no run
+-- is open, and nothing is missing behind it
+abbrev pub after_ending : Assembly → Assembly
+after_ending s = record s {
+  state = state_with_run s.state None;
+  closed = None;
+  unit = None;
+  ended = s.ended ++ given_out (not s.is_gap && is_run_closed s.state.run) s.unit;
+}
 
 -- what stands after the end: what was open is not known to be whole, no run is open, and any number
 -- may be the first

@@ -3,3 +3,4 @@ pub mod AccessUnit
 pub mod StampedCalls
 pub mod AnyUnits
 pub mod Assembler
+pub mod Spare

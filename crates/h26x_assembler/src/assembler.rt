@@ -3,7 +3,7 @@
 ghost use Rattle.std.specs.Prelude.{◌≡◌, ◌+◌, ◌≤◌, ℕ, true, false, None, Ok, Err, OnOk, OnErr, vec_len, vec_capacity};
 ghost use Rattle.h26x_receiver.specs.Sequenced.{skip_answer, is_run_kept, IfTaken, UnlessTaken};
 ghost use Rattle.h26x_assembler.specs.declared.access_unit.AccessUnit.{AccessUnit};
-ghost use Rattle.h26x_assembler.specs.AccessUnit.{none_open, is_unit_at, IsAssemblyAnswer, after_taken_rtp, after_unit_skip, after_pass_over, after_finishing, unit_len, is_text_given_up, parts_at, IsTakenAnswerAt};
+ghost use Rattle.h26x_assembler.specs.AccessUnit.{none_open, is_unit_at, IsAssemblyAnswer, after_taken_rtp, after_unit_skip, after_pass_over, after_ending, after_finishing, unit_len, is_text_given_up, parts_at, IsTakenAnswerAt};
 ghost use Rattle.h26x_assembler.specs.Assembler.{assembly_at, after_receiving, gives_text_up, IsNumberPassed};
 ghost use Rattle.h26x_depacketizer.specs.RunDepacketizer.{RunStaysWithin};
 
@@ -75,7 +75,7 @@ fn begin<D: RunDepacketizer>(
         &mut unit.extra,
     );
     if !was_taken(&received) {
-        spare.keep(unit.text.into_text(), usize::MAX);
+        spare.put_back(unit.text.into_text());
         return received;
     }
     let is_dropped = unit.is_dropped(len);
@@ -266,6 +266,31 @@ impl<D: RunDepacketizer> AccessUnitAssembler<D> {
         self.unit.forget_marker();
     }
 
+    /// Ends the access unit that is open, as a marker of its last packet would, and appends it: for one
+    /// whose end neither the marker nor another timestamp tells, but its units. It is known to be whole
+    /// where what came of it is, and no run is open, which is given up. The number that is expected
+    /// stays.
+    ///
+    /// Without memory the error is `OutOfMemory`, and everything is left.
+    pub fn end(&mut self, out: &mut Vec<AccessUnit>) -> Result<(), PacketError>
+        ensures after { OnOk result (assembly_at D.state self.new out.new.items ≡ after_ending
+            (assembly_at D.state self.old out.old.items)) }
+        ensures rest { self.new.packets ≡ self.old.packets }
+        ensures unit_limit { self.new.unit_limit ≡ self.old.unit_limit }
+        ensures text { self.new.is_text_given_up ≡ self.old.is_text_given_up }
+        ensures memory { OnErr result (result ≡ Err PacketError.OutOfMemory) }
+        ensures kept { OnErr result (self.new ≡ self.old) }
+        ensures kept_out { OnErr result (out.new.items ≡ out.old.items) }
+    {
+        out.reserve(1)?;
+        let is_gap = self.unit.is_gap();
+        self.unit.finish(!is_gap, out);
+        if is_gap {
+            self.unit.break_off();
+        }
+        Ok(())
+    }
+
     /// At the end of a stream: appends the access unit that is open, which isn't known to be whole,
     /// and gives up the open run. Any sequence number may be the next.
     ///
@@ -288,9 +313,9 @@ impl<D: RunDepacketizer> AccessUnitAssembler<D> {
         Ok(())
     }
 
-    /// Drops the access unit that is open, gives up the open run, and takes any sequence number as
-    /// the next: for a peer that begins anew, whose packets are late one after the other. It takes no
-    /// memory.
+    /// Drops the access unit that is open, gives up the open run, gives back all memory, and takes any
+    /// sequence number as the next: for a peer that begins anew, whose packets are late one after the
+    /// other. It takes no memory.
     pub fn restart(&mut self)
         ensures depacketizer { self.new.packets.depacketizer
             ≡ D.with_run None self.old.packets.depacketizer }
@@ -302,12 +327,14 @@ impl<D: RunDepacketizer> AccessUnitAssembler<D> {
     {
         self.packets.restart();
         let alloc = self.spare.allocator();
+        self.spare = SpareMemory::none(alloc);
         self.unit = OpenAccessUnit::none(alloc);
     }
 
-    /// Takes back an access unit that was given out, for its memory: a later one is written there. Of
-    /// those that are given back the one with the most room is kept, until one begins; none with room
-    /// for more than `unit_limit` bytes.
+    /// Takes back an access unit that was given out, for its memory: a later one is written there.
+    /// Of those that are given back the one with the most room is kept, until one begins; none with
+    /// room for more than `unit_limit` bytes, nor for more than 2^20 bytes and than twice those of
+    /// the longest of the last 64 that were given back.
     pub fn give_back(&mut self, unit: AccessUnit)
         ensures { self.new ≡ self.old }
     {

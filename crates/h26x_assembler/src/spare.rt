@@ -1,19 +1,49 @@
 //! Memory of access units that was given back.
 
+ghost use Rattle.std.specs.Prelude.{◌≡◌};
+ghost use Rattle.h26x_assembler.specs.Spare.{kept_memory};
+
 use std::alloc::Global;
 use std::marker::Model;
 use std::mem;
 
-/// Memory of an access unit that was given back, for a later one. To contracts it is nothing.
+/// Of how many access units one after the other it is known how long the longest was: twice as many
+/// count for what is kept.
+const COUNTED: u8 = 32;
+
+/// How many bytes of memory are kept whatever access units need.
+const KEPT_MEMORY: usize = 1 << 20;
+
+/// Memory of an access unit that was given back, for a later one: at most twice what the longest of the
+/// last 64 that were given back needed, or 2^20 bytes. To contracts it is nothing.
 #[derive(Debug, Drop)]
 pub struct SpareMemory {
     bytes: Vec<u8>,
+    /// How many bytes the longest one has of those that are counted now.
+    latest: usize,
+    /// So of those that were counted before these.
+    earlier: usize,
+    /// How many are counted now.
+    count: u8,
 }
 
 impl Model for SpareMemory {
+    ghost use Rattle.std.specs.Prelude.{◌≤◌, vec_capacity};
+    ghost use Rattle.h26x_assembler.specs.Spare.{kept_memory};
+
     ghost Value = { Unit {0} };
 
     ghost view = { λ _. tt };
+
+    ghost invariant = { λ s. vec_capacity s.bytes ≤ kept_memory s.latest s.earlier };
+}
+
+/// How many bytes are kept at most, where the longest access units had so many.
+#[inline]
+fn kept_memory(latest: usize, earlier: usize) -> usize
+    ensures { result ≡ kept_memory latest earlier }
+{
+    latest.max(earlier).saturating_mul(2).max(KEPT_MEMORY)
 }
 
 impl SpareMemory {
@@ -21,6 +51,9 @@ impl SpareMemory {
     pub(crate) fn none(alloc: Global) -> Self {
         SpareMemory {
             bytes: Vec::new(alloc),
+            latest: 0,
+            earlier: 0,
+            count: 0,
         }
     }
 
@@ -36,11 +69,31 @@ impl SpareMemory {
         mem::replace(&mut self.bytes, Vec::new(alloc))
     }
 
-    /// Keeps memory in the place of what is kept, where it is more and within a limit.
+    /// Puts memory back that was removed.
+    pub(crate) fn put_back(&mut self, memory: Vec<u8>) {
+        if memory.capacity() <= kept_memory(self.latest, self.earlier) {
+            self.bytes = memory;
+        }
+    }
+
+    /// Keeps memory of an access unit in the place of what is kept, where it is more and within the
+    /// limits.
     #[inline]
     pub(crate) fn keep(&mut self, memory: Vec<u8>, limit: usize) {
-        if memory.capacity() <= limit && memory.capacity() > self.bytes.capacity() {
+        if self.count < COUNTED {
+            self.latest = self.latest.max(memory.len());
+            self.count += 1;
+        } else {
+            self.earlier = self.latest;
+            self.latest = memory.len();
+            self.count = 1;
+        }
+        let most = kept_memory(self.latest, self.earlier);
+        let had = self.bytes.capacity();
+        if memory.capacity() <= most.min(limit) && (had > most || memory.capacity() > had) {
             self.bytes = memory;
+        } else if had > most {
+            self.bytes = Vec::new(*memory.allocator());
         }
     }
 }

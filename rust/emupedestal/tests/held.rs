@@ -93,7 +93,7 @@ fn fragment(codec: Codec, starts: bool) -> Vec<u8> {
         Codec::H265 => vec![0x62, 1, 0x13 | s],
         Codec::H266 => vec![0, 0xe9, 7 | s],
     };
-    packet.resize(PACKET, 0xaa);
+    packet.resize(PACKET, 0x2a);
     packet
 }
 
@@ -272,6 +272,35 @@ fn one_access_unit_that_was_given_back_is_kept() {
     }
 }
 
+/// Memory of a long access unit is kept as long as one of the last 64 that were given back needed it, and
+/// is none behind a restart.
+#[test]
+fn memory_of_a_long_access_unit_goes() {
+    const LONG: usize = 1 << 22;
+    let given = |len: usize| AccessUnit {
+        timestamp: 0,
+        bytes: vec![0; len],
+        extra: CodecExtra::None,
+        is_whole: true,
+    };
+    for codec in [Codec::H264, Codec::H265, Codec::H266] {
+        let mut receiver = AccessUnitAssembler::new(codec, RUN_LIMIT, 2 * LONG);
+        let before = HELD.get();
+        receiver.give_back(given(LONG));
+        for _ in 0..32 {
+            receiver.give_back(given(100));
+        }
+        assert_eq!(HELD.get() - before, LONG as isize, "{codec:?}");
+        for _ in 0..32 {
+            receiver.give_back(given(100));
+        }
+        assert!(HELD.get() - before <= SMALL as isize, "{codec:?}");
+        receiver.give_back(given(LONG));
+        receiver.restart();
+        assert_eq!(HELD.get(), before, "{codec:?}");
+    }
+}
+
 /// A run that is too long goes, and the text before it stays where it is, with its memory: else each such
 /// packet would have all of the text copied.
 #[test]
@@ -379,7 +408,7 @@ fn a_long_unit_that_goes_leaves_a_short_access_unit() {
             }),
             ("a refusal", 0, |receiver, mut sequence, codec| {
                 let refused: &[u8] = match codec {
-                    Codec::H264 => &[0x1e, 0],
+                    Codec::H264 => &[0x7c],
                     Codec::H265 => &[0x62, 1],
                     Codec::H266 => &[0, 0xe9],
                 };

@@ -44,7 +44,7 @@ fn begin<D: RunDepacketizer>(
         &mut unit.extra,
     );
     if !was_taken(&received) {
-        spare.keep(unit.text.into_text(), usize::MAX);
+        spare.put_back(unit.text.into_text());
         return received;
     }
     let is_dropped = unit.is_dropped(len);
@@ -160,6 +160,22 @@ impl<D: RunDepacketizer> AccessUnitAssembler<D> {
         self.unit.forget_marker();
     }
 
+    /// Ends the access unit that is open, as a marker of its last packet would, and appends it: for one
+    /// whose end neither the marker nor another timestamp tells, but its units. It is known to be whole
+    /// where what came of it is, and no run is open, which is given up. The number that is expected
+    /// stays.
+    ///
+    /// Without memory the error is `OutOfMemory`, and everything is left.
+    pub fn end(&mut self, out: &mut Vec<AccessUnit>) -> Result<(), PacketError> {
+        out.try_reserve(1)?;
+        let is_gap = self.unit.is_gap();
+        self.unit.finish(!is_gap, out);
+        if is_gap {
+            self.unit.break_off();
+        }
+        Ok(())
+    }
+
     /// At the end of a stream: appends the access unit that is open, which isn't known to be whole,
     /// and gives up the open run. Any sequence number may be the next.
     ///
@@ -171,17 +187,19 @@ impl<D: RunDepacketizer> AccessUnitAssembler<D> {
         Ok(())
     }
 
-    /// Drops the access unit that is open, gives up the open run, and takes any sequence number as
-    /// the next: for a peer that begins anew, whose packets are late one after the other. It takes no
-    /// memory.
+    /// Drops the access unit that is open, gives up the open run, gives back all memory, and takes any
+    /// sequence number as the next: for a peer that begins anew, whose packets are late one after the
+    /// other. It takes no memory.
     pub fn restart(&mut self) {
         self.packets.restart();
+        self.spare = SpareMemory::none();
         self.unit = OpenAccessUnit::none();
     }
 
-    /// Takes back an access unit that was given out, for its memory: a later one is written there. Of
-    /// those that are given back the one with the most room is kept, until one begins; none with room
-    /// for more than `unit_limit` bytes.
+    /// Takes back an access unit that was given out, for its memory: a later one is written there.
+    /// Of those that are given back the one with the most room is kept, until one begins; none with
+    /// room for more than `unit_limit` bytes, nor for more than 2^20 bytes and than twice those of
+    /// the longest of the last 64 that were given back.
     pub fn give_back(&mut self, unit: AccessUnit) {
         self.spare.keep(unit.bytes, self.unit_limit);
     }
