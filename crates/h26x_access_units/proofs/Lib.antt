@@ -6,3 +6,5 @@ pub mod ContentLemmas
 pub mod LimitLemmas
 pub mod ReceptionLemmas
 pub mod MissingLemmas
+pub mod DecodableLemmas
+pub mod GivenLemmas

@@ -1,5 +1,5 @@
 -- What a receiver holds stays within its limits.
-use Rattle.std.proofs.Common.{◌≡◌, ◌∙◌, ap, sym, subst, refl, ℕ, ◌+◌, ◌≤◌, Bool, true, false, cond, List, [], ◌∷◌, length, Option, Some, None, Result, Ok, Err, arith}
+use Rattle.std.proofs.Common.{◌≡◌, ◌∙◌, ap, sym, subst, refl, ℕ, ◌+◌, ◌≤◌, Bool, true, false, cond, List, [], ◌∷◌, length, Option, Some, None, Result, Ok, Err, arith, inl, inr}
 use Rattle.std.specs.Prelude.{◌==◌, ◌||◌, ◌&&◌, nat_lt, nat_le, max, IfOk, OnOk, OnErr, MatchBool}
 use Rattle.std.specs.Option.{option_map}
 use Rattle.std.proofs.lemmas.Bool.Decides.{nat_tests}
@@ -14,14 +14,14 @@ use Rattle.h26x_reorder.specs.Rtp.{RtpBody}
 use Rattle.h26x_reorder.specs.ReorderBuffer.{BufferState, due_at, put_packet, push_answer, after_push, without_first_of}
 use Rattle.h26x_reorder.specs.declared.pushed.Pushed as buffers
 use Rattle.h26x_reorder.specs.declared.pushed.Pushed.TheVariants as buffered
-use Rattle.h26x_assembler.specs.AccessUnit.{AccessUnitValue, Assembly, unit_len, unit_within, whole_if, taken_by, after_rtp, after_taken_rtp, after_unit_skip, behind_missing, after_pass_over}
+use Rattle.h26x_assembler.specs.AccessUnit.{AccessUnitValue, Assembly, unit_len, unit_within, whole_if, taken_by, after_rtp, after_taken_rtp, after_unit_skip, behind_missing, after_pass_over, after_ending}
 use Rattle.h26x_access_units.specs.declared.config.AccessUnitConfig.{AccessUnitConfig}
 use Rattle.h26x_access_units.specs.declared.pushed.Pushed.{Pushed}
 use Rattle.h26x_access_units.specs.declared.pushed.Pushed.TheVariants as pushes
 use Rattle.h26x_access_units.specs.Numbers.{bears_nothing}
 use Rattle.h26x_access_units.specs.JitterBuffer.{JitterState, held_bytes, is_full, is_far, jitter_answer, after_jitter, with_held_limit, fresh_jitter}
 use Rattle.h26x_access_units.specs.Pushed.{as_pushed}
-use Rattle.h26x_access_units.specs.Reception.{Reception, reception_answer, after_reception, is_behind_stray, pushed_to, anew_of, assembly_after, is_taken_at_once, IsDueTaken, IsEndedBehindMissing, begun_for, IsPushed, IsDrained, none, more, behind, ended_if_anew, ended_if_over, has_no_unit, without_given, without_given_of, fresh_reception, IsNext}
+use Rattle.h26x_access_units.specs.Reception.{Reception, reception_answer, after_reception, is_behind_stray, pushed_to, anew_of, assembly_after, is_no_unit, after_no_unit, ends_with, is_taken_at_once, IsDueTaken, IsEndedBefore, is_behind_missing, ended_behind_missing, ended_by_content, begun_for, packet_at, IsPushed, IsDrained, none, bare, more, behind, bare_passed, without_bare, without_bare_of, ended_if_anew, IsDrainedInPart, ended_if_over, has_no_unit, without_given, without_given_of, fresh_reception, IsNext}
 use Rattle.h26x_access_units.specs.ReceivedAccessUnit.{ReceivedAccessUnitValue}
 use Rattle.h26x_access_units.specs.Limits.{stray_len, IsWithinLimits, StaysWithinLimits}
 
@@ -54,7 +54,7 @@ answered_adds now j p pushes.Stray = omega arith
 answered_adds now j p pushes.Anew = omega arith
 answered_adds now j p pushes.Full = omega arith
 
-config_stays : (now : ℕ) (j : JitterState) (p : ℕ × RtpBody) (answer : Pushed) → (after_jitter now j p answer).config ≡ j.config
+pub config_stays : (now : ℕ) (j : JitterState) (p : ℕ × RtpBody) (answer : Pushed) → (after_jitter now j p answer).config ≡ j.config
 config_stays now j p pushes.Held = refl
 config_stays now j p (pushes.Late n) = refl
 config_stays now j p pushes.Twice = refl
@@ -90,7 +90,7 @@ anew_adds now config (Some stray) p =
     let two = answered_adds now first p (jitter_answer first p) in
     omega (arith, one, two)
 
-anew_config : (now : ℕ) (config : AccessUnitConfig) (stray : Option (ℕ × RtpBody)) (p : ℕ × RtpBody) → (anew_of now config stray p).config ≡ config
+pub anew_config : (now : ℕ) (config : AccessUnitConfig) (stray : Option (ℕ × RtpBody)) (p : ℕ × RtpBody) → (anew_of now config stray p).config ≡ config
 anew_config now config None p = config_stays now (fresh_jitter config) p (jitter_answer (fresh_jitter config) p)
 anew_config now config (Some stray) p = refl
 
@@ -203,7 +203,13 @@ assembly_within most limit s p (Ok answer) is = elim (bears_nothing p.1.payload)
   | true ↦ skipped_within most limit s p.0 is
   | false ↦ answered_within most limit s p (Ok answer) is
 ]
-assembly_within most limit s p (Err error) is = passed_over_within most limit s p.0 is
+assembly_within most limit s p (Err error) is = elim (is_no_unit s error p.1.payload) as (λ b. AreWithin most limit (cond b (after_no_unit s p) (after_pass_over s p.0))) [
+  | true ↦ skipped_within most limit (cond (ends_with s p) (after_ending s) s) p.0 (elim (ends_with s p) as (λ b. AreWithin most limit (cond b (after_ending s) s)) [
+    | true ↦ record { run = omega arith; unit = omega arith }
+    | false ↦ is
+  ])
+  | false ↦ passed_over_within most limit s p.0 is
+]
 
 -- a packet that goes takes its bytes with it
 goes_bytes : (window : ℕ) (due : Option ℕ) (held : List (ℕ × RtpBody)) → held_bytes (without_first_of window due held).held ≤ held_bytes held
@@ -212,17 +218,33 @@ goes_bytes window due (p ∷ held) = omega arith
 
 due_within : (most now : ℕ) (s t : Reception) → IsDueTaken now s t → IsWithinLimits most s → IsWithinLimits most t
 due_within most now s t it is =
-    let assembler = assembly_within s.run_limit s.unit_limit (begun_for s.assembler it.packet) it.packet it.answer (record { run = is.run; unit = is.unit }) in
+    let assembler = assembly_within s.run_limit s.unit_limit (begun_for s.assembler it.packet) (packet_at s it.packet) it.answer (record { run = is.run; unit = is.unit }) in
     let less = goes_bytes s.waiting.buffer.window s.waiting.buffer.due s.waiting.buffer.held in
     let at = is.waiting in
     subst (IsWithinLimits most) (sym it.stands) (record { waiting = omega (arith, less, at); stray = is.stray; run = assembler.run; unit = assembler.unit })
 
--- where one ended behind numbers that are missing
-ended_within : (most now : ℕ) (s t : Reception) → IsEndedBehindMissing now s t → IsWithinLimits most s → IsWithinLimits most t
-ended_within most now s t it is = subst (IsWithinLimits most) (sym it.stands) (record { waiting = is.waiting; stray = is.stray; run = omega arith; unit = omega arith })
+-- where one ended before a packet
+ended_within : (most now : ℕ) (s t : Reception) → IsEndedBefore now s t → IsWithinLimits most s → IsWithinLimits most t
+ended_within most now s t it is = subst (IsWithinLimits most) (sym it.stands)
+    (elim (is_behind_missing s.assembler it.packet.0) as (λ b. IsWithinLimits most (cond b (ended_behind_missing s it.packet) (ended_by_content s))) [
+      | true ↦ record { waiting = is.waiting; stray = is.stray; run = omega arith; unit = omega arith }
+      | false ↦ record { waiting = is.waiting; stray = is.stray; run = omega arith; unit = omega arith }
+    ])
+
+-- where those without bytes are passed over
+bare_within_of : (most : ℕ) (units : List AccessUnitValue) (s : Reception) → IsWithinLimits most s → IsWithinLimits most (without_bare_of s units)
+bare_within_of most [] s is = is
+bare_within_of most (unit ∷ units) s is = elim (bears_nothing unit.bytes) as (λ b. IsWithinLimits most (cond b (without_bare_of (bare_passed s unit units) units) s)) [
+  | true ↦ bare_within_of most units (bare_passed s unit units) (record { waiting = is.waiting; stray = is.stray; run = is.run; unit = is.unit })
+  | false ↦ is
+]
+
+pub bare_within : (most : ℕ) (s : Reception) → IsWithinLimits most s → IsWithinLimits most (without_bare s)
+bare_within most s is = bare_within_of most s.assembler.ended s is
 
 pub drained_within : (most now : ℕ) (s t : Reception) → IsDrained now s t → IsWithinLimits most s → IsWithinLimits most t
 drained_within most now s t none is = is
+drained_within most now s t (bare before) is = bare_within most _ (drained_within most now s _ before is)
 drained_within most now s t (more before empty taken) is = due_within most now _ t taken (drained_within most now s _ before is)
 drained_within most now s t (behind before empty ended) is = ended_within most now _ t ended (drained_within most now s _ before is)
 
@@ -251,14 +273,14 @@ fresh_within most config state = record { waiting = omega arith; stray = omega a
 pub next_within : (most now : ℕ) (s new : Reception) (unit : Option ReceivedAccessUnitValue) → IsNext now s new unit → IsWithinLimits most s → IsWithinLimits most new
 next_within most now s new unit it is =
     subst (IsWithinLimits most) (sym it.stands)
-    (given_within most (ended_if_over it.drained) (over_within most it.drained (drained_within most now (ended_if_anew s) it.drained it.taken (anew_within most s is))))
+    (given_within most (without_bare (ended_if_over it.drained)) (bare_within most (ended_if_over it.drained) (over_within most it.drained (drained_within most now (ended_if_anew (without_bare s)) it.drained it.taken (anew_within most (without_bare s) (bare_within most s is))))))
 
 -- where a packet came and is answered so
 pub pushed_within : (now : ℕ) (s new : Reception) (p : ℕ × RtpBody) (answer : Pushed) → answer ≡ reception_answer s p → IsPushed now s p answer new →
     StaysWithinLimits (length p.1.payload) s new
 pushed_within now s new p answer is pushed = λ most small at.
     let waits = subst (λ (a : Pushed). IsWithinLimits most (after_reception now s p a)) (sym is) (push_within most now s p small at) in
-    elim (is_taken_at_once s p.0) as (λ b. MatchBool b (IsDueTaken now (after_reception now s p answer) new) (new ≡ after_reception now s p answer) → IsWithinLimits most new) [
+    elim (is_taken_at_once s p) as (λ b. MatchBool b (IsDueTaken now (after_reception now s p answer) new) (new ≡ after_reception now s p answer) → IsWithinLimits most new) [
       | true ↦ λ taken. due_within most now (after_reception now s p answer) new taken waits
       | false ↦ λ stands. subst (IsWithinLimits most) (sym stands) waits
     ] pushed
@@ -276,5 +298,6 @@ at_once_within now s new p (Ok answer) is taken kept = λ most small at.
 at_once_within now s new p (Err error) is taken kept = λ most small at. subst (IsWithinLimits most) (sym kept) at
 
 -- where memory lacks for the next access unit
-pub left_within : (len now : ℕ) (s new : Reception) → IsDrained now (ended_if_anew s) new → StaysWithinLimits len s new
-left_within len now s new taken = λ most small at. drained_within most now (ended_if_anew s) new taken (anew_within most s at)
+pub left_within : (len now : ℕ) (s new : Reception) → IsDrainedInPart now s new → StaysWithinLimits len s new
+left_within len now s new (inl same) = λ most small at. subst (IsWithinLimits most) (sym same) (bare_within most s at)
+left_within len now s new (inr taken) = λ most small at. drained_within most now (ended_if_anew (without_bare s)) new taken (anew_within most (without_bare s) (bare_within most s at))

@@ -1,5 +1,5 @@
 -- Packets that are due, taken one after the other, or at once.
-use Rattle.std.proofs.Common.{◌≡◌, ◌∙◌, ap, sym, subst, ℕ, ◌+◌, ◌*◌, ◌<◌, Bool, true, false, cond, List, [], ◌∷◌, length, Option, Some, None, inl, inr, map, slice_index_or, refl, arith}
+use Rattle.std.proofs.Common.{◌≡◌, ◌∙◌, ap, sym, subst, ℕ, ◌+◌, ◌*◌, ◌<◌, Bool, true, false, cond, List, [], ◌∷◌, ◌++◌, length, Option, Some, None, inl, inr, map, slice_index_or, refl, arith}
 use Rattle.std.specs.Prelude.{remove}
 use Rattle.h26x_assembler.specs.declared.access_unit.AccessUnit.{AccessUnit}
 use Rattle.std.specs.Prelude.{◌==◌, ◌||◌, ◌&&◌, if◌then◌else◌, ◌⊎◌, nat_lt, nat_le, slice_get}
@@ -13,28 +13,32 @@ use Rattle.std.specs.Prelude.{Result, Ok, Err, IfOk, MatchBool, not, is_some}
 use Rattle.h26x_receiver.specs.declared.received.Received.{Received}
 use Rattle.h26x_receiver.specs.declared.received.Received.TheVariants.{InOrder, Gap, TooLong, Late}
 use Rattle.h26x_receiver.specs.Sequenced.{is_taken}
-use Rattle.h26x_assembler.specs.AccessUnit.{AccessUnitValue, access_unit_value, Assembly, is_unit_at, is_text_given_up, after_rtp, after_finishing}
+use Rattle.h26x_assembler.specs.AccessUnit.{AccessUnitValue, access_unit_value, Assembly, is_unit_at, is_text_given_up, given_out, after_rtp, after_ending, after_finishing}
 use Rattle.h26x_access_units.specs.declared.counts.Counts.{Counts}
 use Rattle.h26x_access_units.specs.declared.decoder.DecoderState.{DecoderState}
+use Rattle.h26x_access_units.specs.declared.framing.Framing.{Framing}
+use Rattle.h26x_access_units.specs.Framing.{fresh_framing, ends_by_content}
 use Rattle.h26x_access_units.specs.declared.numbers.NumbersSoFar.{NumbersSoFar}
 use Rattle.h26x_reorder.specs.declared.pushed.Pushed.TheVariants as buffered
 use Rattle.h26x_access_units.specs.declared.pushed.Pushed.{Pushed}
 use Rattle.h26x_access_units.specs.declared.pushed.Pushed.TheVariants as pushes
-use Rattle.h26x_access_units.specs.Counts.{counted_due, counted_skip, counted_answer, counted_dropped, counted_unit}
+use Rattle.h26x_access_units.specs.Counts.{counted_due, counted_skip, counted_answer, counted_dropped, counted_framing, counted_unit}
 use Rattle.h26x_access_units.specs.Pushed.{as_pushed}
-use Rattle.h26x_access_units.specs.Numbers.{bears_nothing, numbers_after, after_last, after_missing, first_ended, without_first_ended}
+use Rattle.h26x_access_units.specs.Numbers.{bears_nothing, numbers_after, numbers_closed, numbers_carrying, after_last, after_missing, first_ended, without_first_ended}
 use Rattle.h26x_access_units.specs.JitterBuffer.{JitterState, is_far, is_full, jitter_answer, is_pressed, due_packet, with_packet, without_due}
 use Rattle.h26x_access_units.specs.ReceivedAccessUnit.{ReceivedAccessUnitValue, received_unit, decoder_with, whole_with}
-use Rattle.h26x_access_units.specs.Reception.{Reception, reception, assembly_after, marker_forgotten, begun_for, expected_for, is_behind_missing, begins_behind_missing, after_due, is_behind_stray, reception_answer, after_reception, has_no_unit, is_taken_at_once, is_idle, after_finish, ended_if_anew, ended_if_over, unit_given_of, unit_given, without_given_of, without_given, IsDueTaken, IsPushed, IsDrained, none, more, behind, IsEndedBehindMissing, ended_behind_missing, IsDueTakenOrNone, FollowsWhereDue, IsEndedOrFollows, IsStepOrNone, IsStep, ended_alone, taken_alone, ended_and_taken, IsStepInPart, IsNext}
+use Rattle.h26x_access_units.specs.Reception.{Reception, reception, assembly_after, marker_forgotten, begun_for, expected_for, is_behind_missing, is_in_reach, shown_of, ends_before, is_one_taken, begins_still, counts_answered, after_due, is_behind_stray, reception_answer, after_reception, has_no_unit, has_bare, bare_passed, first_passed, first_passed_of, without_bare, without_bare_of, is_taken_at_once, is_idle, after_finish, ended_if_anew, ended_if_over, unit_given_of, unit_given, without_given_of, without_given, IsDueTaken, IsPushed, IsDrained, none, bare, more, behind, IsEndedBefore, ended_behind_missing, ended_by_content, ended_before, IsDueTakenOrNone, FollowsWhereDue, IsEndedOrFollows, IsStepOrNone, IsStep, ended_alone, taken_alone, ended_and_taken, IsStepInPart, IsNext}
 
 -- where nothing is held nothing is ready
 none_ready : (window : ℕ) (due : Option ℕ) → first_ready {A = RtpBody} window due [] ≡ None
 none_ready window None = refl
 none_ready window (Some due) = refl
 
-at_most : (n m : ℕ) (b : Bool) → n + 1 ≡ m → n * 2 + cond b 1 0 < m * 2 + 1
-at_most n m true e = omega (arith, e)
-at_most n m false e = omega (arith, e)
+at_most_both : (n m : ℕ) (b c : Bool) → n + 1 ≡ m → n * 2 + cond b 1 0 < m * 2 + cond c 1 0
+at_most_both n m true true e = omega (arith, e)
+at_most_both n m true false e = omega (arith, e)
+at_most_both n m false true e = omega (arith, e)
+at_most_both n m false false e = omega (arith, e)
 
 -- of a packet that is due there is one less once it went
 goes : (pressed : Bool) (window : ℕ) (due : Option ℕ) (held : List (ℕ × RtpBody)) (p : ℕ × RtpBody) →
@@ -72,18 +76,18 @@ counted_as expected c p answer x y = by (bears_nothing p.1.payload) answer
     by false (TooLong n) same = ap (counted_answer c (TooLong n)) (same refl refl)
 
 -- what stands after a packet that was due, by its parts
-pub due_stands : (s : Reception) (p : ℕ × RtpBody) (a : Result Received PacketError) (waiting : JitterState) (assembler : Assembly) (numbers : NumbersSoFar) (counts : Counts) (run unit : ℕ) →
-    waiting ≡ without_due s.waiting → assembler ≡ marker_forgotten (assembly_after s.run_limit s.unit_limit (begun_for s.assembler p) p a) → numbers ≡ numbers_after (expected_for s.assembler.expected p) s.numbers p a →
-    counts ≡ counted_due (expected_for s.assembler.expected p) s.counts p a (is_text_given_up s.run_limit s.unit_limit (begun_for s.assembler p) p) →
-    run ≡ s.run_limit → unit ≡ s.unit_limit → reception waiting s.stray s.is_anew assembler numbers s.decoder counts run unit ≡ after_due s p a
-due_stands s p a waiting assembler numbers counts run unit w f n c r u =
+pub due_stands : (s : Reception) (p : ℕ × RtpBody) (a : Result Received PacketError) (waiting : JitterState) (assembler : Assembly) (framing : Framing) (numbers : NumbersSoFar) (counts : Counts) (run unit : ℕ) →
+    waiting ≡ without_due s.waiting → assembler ≡ (after_due s p a).assembler → framing ≡ (after_due s p a).framing → numbers ≡ (after_due s p a).numbers → counts ≡ (after_due s p a).counts →
+    run ≡ s.run_limit → unit ≡ s.unit_limit → reception waiting s.stray s.is_anew assembler framing numbers s.decoder counts run unit ≡ after_due s p a
+due_stands s p a waiting assembler framing numbers counts run unit w f m n c r u =
     let after = after_due s p a in
-    ap (λ (x : JitterState). reception x s.stray s.is_anew assembler numbers s.decoder counts run unit) w
-    ∙ ap (λ (x : Assembly). reception after.waiting s.stray s.is_anew x numbers s.decoder counts run unit) f
-    ∙ ap (λ (x : NumbersSoFar). reception after.waiting s.stray s.is_anew after.assembler x s.decoder counts run unit) n
-    ∙ ap (λ (x : Counts). reception after.waiting s.stray s.is_anew after.assembler after.numbers s.decoder x run unit) c
-    ∙ ap (λ (x : ℕ). reception after.waiting s.stray s.is_anew after.assembler after.numbers s.decoder after.counts x unit) r
-    ∙ ap (λ (x : ℕ). reception after.waiting s.stray s.is_anew after.assembler after.numbers s.decoder after.counts s.run_limit x) u
+    ap (λ (x : JitterState). reception x s.stray s.is_anew assembler framing numbers s.decoder counts run unit) w
+    ∙ ap (λ (x : Assembly). reception after.waiting s.stray s.is_anew x framing numbers s.decoder counts run unit) f
+    ∙ ap (λ (x : Framing). reception after.waiting s.stray s.is_anew after.assembler x numbers s.decoder counts run unit) m
+    ∙ ap (λ (x : NumbersSoFar). reception after.waiting s.stray s.is_anew after.assembler after.framing x s.decoder counts run unit) n
+    ∙ ap (λ (x : Counts). reception after.waiting s.stray s.is_anew after.assembler after.framing after.numbers s.decoder x run unit) c
+    ∙ ap (λ (x : ℕ). reception after.waiting s.stray s.is_anew after.assembler after.framing after.numbers s.decoder after.counts x unit) r
+    ∙ ap (λ (x : ℕ). reception after.waiting s.stray s.is_anew after.assembler after.framing after.numbers s.decoder after.counts s.run_limit x) u
 
 -- a packet that needn't wait is due where it waits, whatever the tick
 pub straight_is_due : (now at : ℕ) (j : JitterState) (p : ℕ × RtpBody) → p.0 < 65536 → goes_straight j.buffer p.0 ≡ true → due_packet now (with_packet at j p) ≡ Some p
@@ -101,24 +105,17 @@ none_of_units [] is = refl
 none_of_units (unit ∷ units) is = absurd (let bad = is in cc)
 
 -- what is known of a packet that is taken at once
-pub at_once : (s : Reception) (number : ℕ) → is_taken_at_once s number ≡ true → (goes_straight s.waiting.buffer number ≡ true) × (has_no_unit s.assembler.ended ≡ true) × (s.is_anew ≡ false) × (is_behind_missing s.assembler number ≡ false)
-at_once s number = by (goes_straight s.waiting.buffer number) (is_behind_missing s.assembler number) (has_no_unit s.assembler.ended) s.is_anew
+pub at_once : (s : Reception) (p : ℕ × RtpBody) → is_taken_at_once s p ≡ true →
+    (goes_straight s.waiting.buffer p.0 ≡ true) × (has_no_unit s.assembler.ended ≡ true) × (s.is_anew ≡ false) × (ends_before s.assembler s.framing p ≡ false)
+at_once s p = by (goes_straight s.waiting.buffer p.0) (is_behind_missing s.assembler p.0) (ends_before s.assembler s.framing p) (has_no_unit s.assembler.ended) s.is_anew
   where
-    by : (a m b c : Bool) → (a && (not m && (b && not c))) ≡ true → (a ≡ true) × (b ≡ true) × (c ≡ false) × (m ≡ false)
-    by true false true false e = (refl, refl, refl, refl)
-    by true false true true e = absurd (let bad = e in cc)
-    by true false false c e = absurd (let bad = e in cc)
-    by true true b c e = absurd (let bad = e in cc)
-    by false m b c e = absurd (let bad = e in cc)
-
--- it begins no access unit behind numbers that are missing
-pub at_once_follows : (s : Assembly) (p : ℕ × RtpBody) → is_behind_missing s p.0 ≡ false → begins_behind_missing s p ≡ false
-at_once_follows s p is = by (bears_nothing p.1.payload) (is_unit_at s.unit p.1.timestamp) (is_behind_missing s p.0) is
-  where
-    by : (a b c : Bool) → c ≡ false → (not a && (not b && c)) ≡ false
-    by true b c e = refl
-    by false true c e = refl
-    by false false c e = e
+    by : (a m e b c : Bool) → (a && (not m && (not e && (b && not c)))) ≡ true → (a ≡ true) × (b ≡ true) × (c ≡ false) × (e ≡ false)
+    by true false false true false is = (refl, refl, refl, refl)
+    by true false false true true is = absurd (let bad = is in cc)
+    by true false false false c is = absurd (let bad = is in cc)
+    by true false true b c is = absurd (let bad = is in cc)
+    by true true e b c is = absurd (let bad = is in cc)
+    by false m e b c is = absurd (let bad = is in cc)
 
 -- it is answered as one that is held
 neither : (a b : Bool) → a ≡ false → b ≡ false → (a || b) ≡ false
@@ -146,10 +143,10 @@ straight_answer s p window small len =
     ∙ ap (λ (f : Bool). cond f pushes.Full (as_pushed (push_answer b p.0))) full
     ∙ ap (λ (l : Bool). as_pushed (cond l (buffered.Late (distance_behind (Some p.0) p.0)) buffered.Held)) early
 
-pub held_at_once : (s : Reception) (p : ℕ × RtpBody) → p.0 < 65536 → length p.1.payload < 18446744073709551616 → is_taken_at_once s p.0 ≡ true → pushes.Held ≡ reception_answer s p
+pub held_at_once : (s : Reception) (p : ℕ × RtpBody) → p.0 < 65536 → length p.1.payload < 18446744073709551616 → is_taken_at_once s p ≡ true → pushes.Held ≡ reception_answer s p
 held_at_once s p small len is =
     let b = s.waiting.buffer in
-    let at = none_held b.window b.due b.held p.0 (at_once s p.0 is).0 in
+    let at = none_held b.window b.due b.held p.0 (at_once s p is).0 in
     sym (ap (λ (h : List (ℕ × RtpBody)). answer_at s p (buffer_state b.window b.due h)) at.0 ∙ ap (λ (d : Option ℕ). answer_at s p (buffer_state b.window d [])) at.1 ∙ straight_answer s p b.window small len)
 
 -- one that was taken at this tick may be taken at another one
@@ -159,17 +156,30 @@ taken_later now later s t p small is it =
     let same : Some p ≡ Some it.packet = sym (straight_is_due now now s.waiting p small is) ∙ it.due in
     record { packet = it.packet; answer = it.answer; due = straight_is_due later now s.waiting p small is ∙ same; follows = it.follows; answered = it.answered; room = it.room; stands = it.stands }
 
--- one more that was taken first
-one_before : (now : ℕ) (s t u : Reception) → s.assembler.ended ≡ [] → IsDueTaken now s t → IsDrained now t u → IsDrained now s u
-one_before now s t u empty taken none = more none empty taken
-one_before now s t u empty taken (more before ended last) = more (one_before now s t _ empty taken before) ended last
-one_before now s t u empty taken (behind before ended last) = behind (one_before now s t _ empty taken before) ended last
+-- what was taken first, and what was taken then
+drained_on : (now : ℕ) (s t u : Reception) → IsDrained now s t → IsDrained now t u → IsDrained now s u
+drained_on now s t u first none = first
+drained_on now s t u first (bare before) = bare (drained_on now s t _ first before)
+drained_on now s t u first (more before ended last) = more (drained_on now s t _ first before) ended last
+drained_on now s t u first (behind before ended last) = behind (drained_on now s t _ first before) ended last
+
+-- where none has ended none is passed over
+none_bare : (s : Reception) → s.assembler.ended ≡ [] → without_bare s ≡ s
+none_bare s empty = ap (without_bare_of s) empty
+
+-- those that are passed over change nothing of whether the stream has begun anew
+bare_anew_of : (units : List AccessUnitValue) (s : Reception) → (without_bare_of s units).is_anew ≡ s.is_anew
+bare_anew_of [] s = refl
+bare_anew_of (unit ∷ units) s = elim (bears_nothing unit.bytes) as (λ b. (cond b (without_bare_of (bare_passed s unit units) units) s).is_anew ≡ s.is_anew) [
+  | true ↦ bare_anew_of units (bare_passed s unit units)
+  | false ↦ refl
+]
 
 -- where the stream hasn't begun anew none is ended for that
 pub not_anew : (s : Reception) → s.is_anew ≡ false → ended_if_anew s ≡ s
 not_anew s is = by (has_no_unit s.assembler.ended) s.is_anew is
   where
-    by : (b c : Bool) → c ≡ false → cond (b && c) (record s { is_anew = false; assembler = after_finishing s.assembler; numbers = after_last s.numbers }) s ≡ s
+    by : (b c : Bool) → c ≡ false → cond (b && c) (record s { is_anew = false; assembler = after_finishing s.assembler; framing = fresh_framing; numbers = after_last s.numbers }) s ≡ s
     by true false e = refl
     by false c e = refl
     by true true e = absurd (let bad = e in cc)
@@ -178,17 +188,19 @@ not_anew s is = by (has_no_unit s.assembler.ended) s.is_anew is
 pub as_if_it_waited : (now later : ℕ) (s t new : Reception) (p : ℕ × RtpBody) (unit : Option ReceivedAccessUnitValue) → p.0 < 65536 → IsPushed now s p pushes.Held t → IsNext later t new unit →
     IsNext later (after_reception now s p pushes.Held) new unit
 as_if_it_waited now later s t new p unit small pushed next =
-    elim (is_taken_at_once s p.0) as (λ b. is_taken_at_once s p.0 ≡ b → MatchBool b (IsDueTaken now (after_reception now s p pushes.Held) t) (t ≡ after_reception now s p pushes.Held) → IsNext later (after_reception now s p pushes.Held) new unit) [
+    elim (is_taken_at_once s p) as (λ b. is_taken_at_once s p ≡ b → MatchBool b (IsDueTaken now (after_reception now s p pushes.Held) t) (t ≡ after_reception now s p pushes.Held) → IsNext later (after_reception now s p pushes.Held) new unit) [
       | true ↦ λ is taken.
-          let at = at_once s p.0 is in
+          let at = at_once s p is in
           let waits = after_reception now s p pushes.Held in
           let empty : s.assembler.ended ≡ [] = none_of_units s.assembler.ended at.1 in
           let anew : t.is_anew ≡ false = ap (λ (r : Reception). r.is_anew) taken.stands ∙ at.2 in
-          let rest : IsDrained later t next.drained = subst (λ (r : Reception). IsDrained later r next.drained) (not_anew t anew) next.taken in
-          let all : IsDrained later waits next.drained = one_before later waits t next.drained empty (taken_later now later s t p small at.0 taken) rest in
+          let rest : IsDrained later (without_bare t) next.drained = subst (λ (r : Reception). IsDrained later r next.drained) (not_anew (without_bare t) (bare_anew_of t.assembler.ended t ∙ anew)) next.taken in
+          let one : IsDrained later waits t = more none empty (taken_later now later s t p small at.0 taken) in
+          let all : IsDrained later waits next.drained = drained_on later waits (without_bare t) next.drained (bare one) rest in
+          let same : ended_if_anew (without_bare waits) ≡ waits = ap ended_if_anew (none_bare waits empty) ∙ not_anew waits at.2 in
           record {
             drained = next.drained;
-            taken = subst (λ (r : Reception). IsDrained later r next.drained) (sym (not_anew waits at.2)) all;
+            taken = subst (λ (r : Reception). IsDrained later r next.drained) (sym same) all;
             until = next.until;
             unit_is = next.unit_is;
             stands = next.stands;
@@ -236,12 +248,13 @@ pub idle_next : (now : ℕ) (s : Reception) → is_idle s ≡ true → IsNext no
 idle_next now s is =
     let at = idle_parts s is in
     let over : ended_if_over s ≡ s = not_over s at.3 in
+    let whole : without_bare (ended_if_over s) ≡ s = ap without_bare over ∙ ap (without_bare_of s) at.0 in
     record {
       drained = s;
-      taken = subst (λ (r : Reception). IsDrained now r s) (sym (not_anew s at.1)) none;
+      taken = subst (λ (r : Reception). IsDrained now r s) (sym (ap ended_if_anew (none_bare s at.0) ∙ not_anew s at.1)) none;
       until = λ _. none_due now s.waiting at.2;
-      unit_is = sym (ap unit_given over ∙ ap (unit_given_of s) at.0);
-      stands = sym (ap without_given over ∙ ap (without_given_of s) at.0);
+      unit_is = sym (ap unit_given whole ∙ ap (unit_given_of s) at.0);
+      stands = sym (ap without_given whole ∙ ap (without_given_of s) at.0);
     }
 
 -- before any was taken
@@ -288,35 +301,62 @@ without_front s unit rest numbers decoder counts is n d c =
 same_there : (p q : ℕ × RtpBody) → Some p ≡ Some q → p ≡ q
 same_there p q is = cc
 
--- where the packet that is due begins no access unit behind numbers that are missing
-pub follows_where_due : (now : ℕ) (s : Reception) (p : ℕ × RtpBody) → due_packet now s.waiting ≡ Some p → begins_behind_missing s.assembler p ≡ false → FollowsWhereDue now s
-follows_where_due now s p due is = λ q other. subst (λ (x : ℕ × RtpBody). begins_behind_missing s.assembler x ≡ false) (same_there p q (sym due ∙ other)) is
+-- where none ends before the packet that is due
+pub follows_where_due : (now : ℕ) (s : Reception) (p : ℕ × RtpBody) → due_packet now s.waiting ≡ Some p → ends_before s.assembler s.framing p ≡ false → FollowsWhereDue now s
+follows_where_due now s p due is = λ q other. subst (λ (x : ℕ × RtpBody). ends_before s.assembler s.framing x ≡ false) (same_there p q (sym due ∙ other)) is
 
--- where no number is expected none begins so
-pub follows_none : (now : ℕ) (s : Reception) → s.assembler.expected ≡ None → FollowsWhereDue now s
-follows_none now s absent = λ p due. by (bears_nothing p.1.payload) (is_unit_at s.assembler.unit p.1.timestamp) (ap (λ (x : Option ℕ). is_some x && (not (is_late x p.0) && (s.assembler.is_gap || not (is_expected x p.0)))) absent)
+-- none ends before a packet where none is open, and nothing is known to be missing before it
+none_open_ends : (s : Assembly) (framing : Framing) (p : ℕ × RtpBody) → s.unit ≡ None → is_behind_missing s p.0 ≡ false → ends_before s framing p ≡ false
+none_open_ends s framing p none_open clear =
+    by (bears_nothing p.1.payload) (is_unit_at s.unit p.1.timestamp) (ap (λ (x : Option AccessUnitValue). is_unit_at x p.1.timestamp) none_open) clear
   where
-    by : {m : Bool} (a b : Bool) → m ≡ false → (not a && (not b && m)) ≡ false
-    by true b e = refl
-    by false true e = refl
-    by false false e = e
+    by : {m : Bool} (a b : Bool) → b ≡ false → m ≡ false → (not a && cond b (is_in_reach s p.0 && ends_by_content framing (shown_of s p)) m) ≡ false
+    by true b e f = refl
+    by false true e f = absurd (let bad = e in cc)
+    by false false e f = f
 
--- so where one ended behind numbers that are missing
-pub follows_ended : (now : ℕ) (s t : Reception) → IsEndedBehindMissing now s t → FollowsWhereDue now t
-follows_ended now s t it = follows_none now t (ap (λ (r : Reception). r.assembler.expected) it.stands)
+-- so once one ended before the packet that is due
+pub follows_ended : (now : ℕ) (s t : Reception) → IsEndedBefore now s t → FollowsWhereDue now t
+follows_ended now s t it = subst (FollowsWhereDue now) (sym it.stands)
+    (elim (is_behind_missing s.assembler it.packet.0) as (λ b. is_behind_missing s.assembler it.packet.0 ≡ b → FollowsWhereDue now (cond b (ended_behind_missing s it.packet) (ended_by_content s))) [
+      | true ↦ λ is. follows_where_due now (ended_behind_missing s it.packet) it.packet it.due (none_open_ends (after_finishing s.assembler) s.framing it.packet refl refl)
+      | false ↦ λ is. follows_where_due now (ended_by_content s) it.packet it.due (none_open_ends (after_ending s.assembler) s.framing it.packet refl is)
+    ] refl)
 
--- what stands where one ended so, by its parts
-pub ended_stands : (s : Reception) (p : ℕ × RtpBody) (assembler : Assembly) (numbers : NumbersSoFar) (counts : Counts) (run unit : ℕ) →
+-- what stands where one ended behind numbers that are missing, by its parts
+pub ended_stands : (s : Reception) (p : ℕ × RtpBody) (assembler : Assembly) (numbers : NumbersSoFar) (counts : Counts) (run unit : ℕ) → is_behind_missing s.assembler p.0 ≡ true →
     assembler ≡ after_finishing s.assembler → numbers ≡ after_missing s.numbers (missing_count s.assembler.expected p.0) →
     counts ≡ counted_dropped s.counts (missing_count s.assembler.expected p.0) →
-    run ≡ s.run_limit → unit ≡ s.unit_limit → reception s.waiting s.stray s.is_anew assembler numbers s.decoder counts run unit ≡ ended_behind_missing s p
-ended_stands s p assembler numbers counts run unit f n c r u =
+    run ≡ s.run_limit → unit ≡ s.unit_limit → reception s.waiting s.stray s.is_anew assembler s.framing numbers s.decoder counts run unit ≡ ended_before s p
+ended_stands s p assembler numbers counts run unit is f n c r u =
     let after = ended_behind_missing s p in
-    ap (λ (x : Assembly). reception s.waiting s.stray s.is_anew x numbers s.decoder counts run unit) f
-    ∙ ap (λ (x : NumbersSoFar). reception s.waiting s.stray s.is_anew after.assembler x s.decoder counts run unit) n
-    ∙ ap (λ (x : Counts). reception s.waiting s.stray s.is_anew after.assembler after.numbers s.decoder x run unit) c
-    ∙ ap (λ (x : ℕ). reception s.waiting s.stray s.is_anew after.assembler after.numbers s.decoder after.counts x unit) r
-    ∙ ap (λ (x : ℕ). reception s.waiting s.stray s.is_anew after.assembler after.numbers s.decoder after.counts s.run_limit x) u
+    let same : ended_before s p ≡ after = rw is refl in
+    ap (λ (x : Assembly). reception s.waiting s.stray s.is_anew x s.framing numbers s.decoder counts run unit) f
+    ∙ ap (λ (x : NumbersSoFar). reception s.waiting s.stray s.is_anew after.assembler s.framing x s.decoder counts run unit) n
+    ∙ ap (λ (x : Counts). reception s.waiting s.stray s.is_anew after.assembler s.framing after.numbers s.decoder x run unit) c
+    ∙ ap (λ (x : ℕ). reception s.waiting s.stray s.is_anew after.assembler s.framing after.numbers s.decoder after.counts x unit) r
+    ∙ ap (λ (x : ℕ). reception s.waiting s.stray s.is_anew after.assembler s.framing after.numbers s.decoder after.counts s.run_limit x) u
+    ∙ sym same
+
+-- and where it ended by its units
+pub content_stands : (s : Reception) (p : ℕ × RtpBody) (assembler : Assembly) (numbers : NumbersSoFar) (run unit : ℕ) → is_behind_missing s.assembler p.0 ≡ false →
+    assembler ≡ after_ending s.assembler → numbers ≡ numbers_closed s.numbers →
+    run ≡ s.run_limit → unit ≡ s.unit_limit → reception s.waiting s.stray s.is_anew assembler s.framing numbers s.decoder s.counts run unit ≡ ended_before s p
+content_stands s p assembler numbers run unit is f n r u =
+    let after = ended_by_content s in
+    let same : ended_before s p ≡ after = rw is refl in
+    ap (λ (x : Assembly). reception s.waiting s.stray s.is_anew x s.framing numbers s.decoder s.counts run unit) f
+    ∙ ap (λ (x : NumbersSoFar). reception s.waiting s.stray s.is_anew after.assembler s.framing x s.decoder s.counts run unit) n
+    ∙ ap (λ (x : ℕ). reception s.waiting s.stray s.is_anew after.assembler s.framing after.numbers s.decoder s.counts x unit) r
+    ∙ ap (λ (x : ℕ). reception s.waiting s.stray s.is_anew after.assembler s.framing after.numbers s.decoder s.counts s.run_limit x) u
+    ∙ sym same
+
+-- an access unit that ends before a packet leaves what waits
+waiting_stays : (s : Reception) (p : ℕ × RtpBody) → (ended_before s p).waiting ≡ s.waiting
+waiting_stays s p = elim (is_behind_missing s.assembler p.0) as (λ b. (cond b (ended_behind_missing s p) (ended_by_content s)).waiting ≡ s.waiting) [
+  | true ↦ refl
+  | false ↦ refl
+]
 
 -- a step by what was taken, where none ended
 step_taken : (now : ℕ) (s new : Reception) (r : Result Bool PacketError) → IfOk r (λ took. IsDueTakenOrNone now s took new) → IfOk r (λ took. IsStepOrNone now s took new)
@@ -330,56 +370,102 @@ step_follows now s t new true r it is taken = absurd (let bad = is in cc)
 step_follows now s t new false r it is taken = step_taken now s new r (subst (λ (x : Reception). IfOk r (λ took. IsDueTakenOrNone now x took new)) it.1 taken)
 
 -- a step by what ended, where none was open, and by what was taken then
-pub step_both : (now : ℕ) (s t new : Reception) (r : Result Bool PacketError) → IsEndedBehindMissing now s t → t.assembler.ended ≡ [] →
+pub step_both : (now : ℕ) (s t new : Reception) (r : Result Bool PacketError) → IsEndedBefore now s t → t.assembler.ended ≡ [] →
     IfOk r (λ took. IsDueTakenOrNone now t took new) → IfOk r (λ took. IsStepOrNone now s took new)
 step_both now s t new (Ok true) ended none_left it = ended_and_taken ended none_left it
 step_both now s t new (Ok false) ended none_left it =
-    let same : due_packet now t.waiting ≡ Some ended.packet = ap (λ (r : Reception). due_packet now r.waiting) ended.stands ∙ ended.due in
+    let same : due_packet now t.waiting ≡ Some ended.packet = ap (λ (r : Reception). due_packet now r.waiting) ended.stands ∙ ap (due_packet now) (waiting_stays s ended.packet) ∙ ended.due in
     absurd (let bad = sym same ∙ it.0 in cc)
 step_both now s t new (Err error) ended none_left it = it
 
--- whether one begins so, where it has a payload, and no access unit of its timestamp is open
-pub begins_by_number : (s : Assembly) (p : ℕ × RtpBody) → bears_nothing p.1.payload ≡ false → is_unit_at s.unit p.1.timestamp ≡ false → begins_behind_missing s p ≡ is_behind_missing s p.0
-begins_by_number s p = by (bears_nothing p.1.payload) (is_unit_at s.unit p.1.timestamp)
-  where
-    by : (a b : Bool) → a ≡ false → b ≡ false → (not a && (not b && is_behind_missing s p.0)) ≡ is_behind_missing s p.0
-    by false false e f = refl
-    by true b e f = absurd (let bad = e in cc)
-    by false true e f = absurd (let bad = f in cc)
-
 -- behind numbers that are missing none is taken at once
-pub not_at_once : (s : Reception) (number : ℕ) → is_behind_missing s.assembler number ≡ true → is_taken_at_once s number ≡ false
-not_at_once s number is = by (goes_straight s.waiting.buffer number) (is_behind_missing s.assembler number) (has_no_unit s.assembler.ended && not s.is_anew) is
+pub not_at_once : (s : Reception) (p : ℕ × RtpBody) → is_behind_missing s.assembler p.0 ≡ true → is_taken_at_once s p ≡ false
+not_at_once s p is = by (goes_straight s.waiting.buffer p.0) (is_behind_missing s.assembler p.0) (not (ends_before s.assembler s.framing p) && (has_no_unit s.assembler.ended && not s.is_anew)) is
   where
     by : (a m b : Bool) → m ≡ true → (a && (not m && b)) ≡ false
     by false m b e = refl
     by true true b e = refl
     by true false b e = absurd (let bad = e in cc)
 
--- else by what has ended and whether the stream has begun anew
-pub at_once_else : (s : Reception) (number : ℕ) → goes_straight s.waiting.buffer number ≡ true → is_behind_missing s.assembler number ≡ false → is_taken_at_once s number ≡ (has_no_unit s.assembler.ended && not s.is_anew)
-at_once_else s number = by (goes_straight s.waiting.buffer number) (is_behind_missing s.assembler number)
+-- nor where one ends before it
+pub not_before_end : (s : Reception) (p : ℕ × RtpBody) → ends_before s.assembler s.framing p ≡ true → is_taken_at_once s p ≡ false
+not_before_end s p is = by (goes_straight s.waiting.buffer p.0) (is_behind_missing s.assembler p.0) (ends_before s.assembler s.framing p) (has_no_unit s.assembler.ended && not s.is_anew) is
   where
-    by : (a m : Bool) → a ≡ true → m ≡ false → (a && (not m && (has_no_unit s.assembler.ended && not s.is_anew))) ≡ (has_no_unit s.assembler.ended && not s.is_anew)
-    by true false e f = refl
-    by false m e f = absurd (let bad = e in cc)
-    by true true e f = absurd (let bad = f in cc)
+    by : (a m b c : Bool) → b ≡ true → (a && (not m && (not b && c))) ≡ false
+    by false m b c e = refl
+    by true true b c e = refl
+    by true false true c e = refl
+    by true false false c e = absurd (let bad = e in cc)
+
+-- else by what has ended and whether the stream has begun anew
+pub at_once_else : (s : Reception) (p : ℕ × RtpBody) → goes_straight s.waiting.buffer p.0 ≡ true → is_behind_missing s.assembler p.0 ≡ false → ends_before s.assembler s.framing p ≡ false →
+    is_taken_at_once s p ≡ (has_no_unit s.assembler.ended && not s.is_anew)
+at_once_else s p = by (goes_straight s.waiting.buffer p.0) (is_behind_missing s.assembler p.0) (ends_before s.assembler s.framing p)
+  where
+    by : (a m b : Bool) → a ≡ true → m ≡ false → b ≡ false → (a && (not m && (not b && (has_no_unit s.assembler.ended && not s.is_anew)))) ≡ (has_no_unit s.assembler.ended && not s.is_anew)
+    by true false false e f h = refl
+    by false m b e f h = absurd (let bad = e in cc)
+    by true true b e f h = absurd (let bad = f in cc)
+    by true false true e f h = absurd (let bad = h in cc)
 
 -- what is left to do: packets that wait, and before each an access unit that may end
-abbrev pub work_left : JitterState → List AccessUnitValue → ℕ
-work_left j ended = length j.buffer.held * 2 + (if has_no_unit ended then 1 else 0)
+abbrev pub work_left : JitterState → Option AccessUnitValue → ℕ
+work_left j unit = length j.buffer.held * 2 + (if is_some unit then 1 else 0)
+
+-- where one has ended by itself one was open
+was_open : (unit : Option AccessUnitValue) (holds : Bool) (ended : List AccessUnitValue) → ended ≡ [] → has_no_unit (ended ++ given_out holds unit) ≡ false → is_some unit ≡ true
+was_open None holds [] empty is = absurd (let bad = is in cc)
+was_open None holds (unit ∷ ended) empty is = absurd (let bad = empty in cc)
+was_open (Some unit) holds ended empty is = refl
+
+ended_falls : (now : ℕ) (s t : Reception) → s.assembler.ended ≡ [] → IsEndedBefore now s t → has_no_unit t.assembler.ended ≡ false → work_left t.waiting t.assembler.unit < work_left s.waiting s.assembler.unit
+ended_falls now s t empty it has =
+    elim (is_behind_missing s.assembler it.packet.0) as (λ b. t ≡ cond b (ended_behind_missing s it.packet) (ended_by_content s) → work_left t.waiting t.assembler.unit < work_left s.waiting s.assembler.unit) [
+      | true ↦ λ stands.
+          let open_before = was_open s.assembler.unit _ s.assembler.ended empty (sym (ap (λ (r : Reception). has_no_unit r.assembler.ended) stands) ∙ has) in
+          subst (λ (r : Reception). work_left r.waiting r.assembler.unit < work_left s.waiting s.assembler.unit) (sym stands) (rw open_before (omega arith))
+      | false ↦ λ stands.
+          let open_before = was_open s.assembler.unit _ s.assembler.ended empty (sym (ap (λ (r : Reception). has_no_unit r.assembler.ended) stands) ∙ has) in
+          subst (λ (r : Reception). work_left r.waiting r.assembler.unit < work_left s.waiting s.assembler.unit) (sym stands) (rw open_before (omega arith))
+    ] it.stands
 
 -- a step leaves less
-pub step_falls : (now : ℕ) (s t : Reception) → s.assembler.ended ≡ [] → IsStep now s t → work_left t.waiting t.assembler.ended < work_left s.waiting s.assembler.ended
-step_falls now s t empty (ended_alone it has) =
-    let same : t.waiting ≡ s.waiting = ap (λ (r : Reception). r.waiting) it.stands in
-    let held = ap (λ (j : JitterState). length j.buffer.held) same in
-    rw (empty, has) (omega (arith, held))
-step_falls now s t empty (taken_alone it) = let falls = taken_falls now s t it in rw empty (at_most _ _ (has_no_unit t.assembler.ended) falls)
+pub step_falls : (now : ℕ) (s t : Reception) → s.assembler.ended ≡ [] → IsStep now s t → work_left t.waiting t.assembler.unit < work_left s.waiting s.assembler.unit
+step_falls now s t empty (ended_alone it has) = ended_falls now s t empty it has
+step_falls now s t empty (taken_alone it) = let falls = taken_falls now s t it in at_most_both _ _ (is_some t.assembler.unit) (is_some s.assembler.unit) falls
 step_falls now s t empty (ended_and_taken it none_left taken) =
     let falls = taken_falls now _ t taken in
-    let same = ap (λ (r : Reception). length r.waiting.buffer.held) it.stands in
-    rw empty (at_most _ _ (has_no_unit t.assembler.ended) (falls ∙ same))
+    let same = ap (λ (r : Reception). length r.waiting.buffer.held) it.stands ∙ ap (λ (j : JitterState). length j.buffer.held) (waiting_stays s it.packet) in
+    at_most_both _ _ (is_some t.assembler.unit) (is_some s.assembler.unit) (falls ∙ same)
+
+-- those without bytes that are passed over leave what waits and what is open
+bare_keeps_of : (units : List AccessUnitValue) (s : Reception) → (without_bare_of s units).waiting ≡ s.waiting × (without_bare_of s units).assembler.unit ≡ s.assembler.unit
+bare_keeps_of [] s = (refl, refl)
+bare_keeps_of (unit ∷ units) s = elim (bears_nothing unit.bytes) as (λ b. (cond b (without_bare_of (bare_passed s unit units) units) s).waiting ≡ s.waiting × (cond b (without_bare_of (bare_passed s unit units) units) s).assembler.unit ≡ s.assembler.unit) [
+  | true ↦ bare_keeps_of units (bare_passed s unit units)
+  | false ↦ (refl, refl)
+]
+
+pub bare_keeps : (s : Reception) → work_left (without_bare s).waiting (without_bare s).assembler.unit ≡ work_left s.waiting s.assembler.unit
+bare_keeps s =
+    let kept = bare_keeps_of s.assembler.ended s in
+    ap (λ (j : JitterState). work_left j (without_bare s).assembler.unit) kept.0 ∙ ap (work_left s.waiting) kept.1
+
+-- the first that ended has no bytes, and is passed over
+pub bare_goes : (s : Reception) → has_bare s.assembler.ended ≡ true → without_bare (first_passed s) ≡ without_bare s
+bare_goes s = by s.assembler.ended
+  where
+    by : (units : List AccessUnitValue) → has_bare units ≡ true → without_bare (first_passed_of s units) ≡ without_bare_of s units
+    by [] is = absurd (let bad = is in cc)
+    by (unit ∷ units) is = rw is refl
+
+-- the first that ended has bytes, or none ended
+pub bare_stays : (s : Reception) → has_bare s.assembler.ended ≡ false → without_bare s ≡ s
+bare_stays s = by s.assembler.ended
+  where
+    by : (units : List AccessUnitValue) → has_bare units ≡ false → without_bare_of s units ≡ s
+    by [] is = refl
+    by (unit ∷ units) is = rw is refl
 
 -- no access unit has ended
 pub none_ended : (units : List AccessUnitValue) (has : Bool) → has ≡ not (has_no_unit units) → has ≡ false → units ≡ []
@@ -390,3 +476,65 @@ none_ended (unit ∷ units) has e f = absurd (let bad = sym e ∙ f in cc)
 pub where_true : (b : Bool) (P Q : Type 0) → MatchBool b P Q → b ≡ true → P
 where_true true P Q it e = it
 where_true false P Q it e = absurd (let bad = e in cc)
+
+-- whether one ends before a packet of its timestamp that has a payload
+pub ends_at : (s : Assembly) (framing : Framing) (p : ℕ × RtpBody) (reaches : Bool) → bears_nothing p.1.payload ≡ false → is_unit_at s.unit p.1.timestamp ≡ true → is_in_reach s p.0 ≡ reaches →
+    ends_before s framing p ≡ (reaches && ends_by_content framing (shown_of s p))
+ends_at s framing p reaches = by (bears_nothing p.1.payload) (is_unit_at s.unit p.1.timestamp) (is_in_reach s p.0)
+  where
+    by : (a b r : Bool) → a ≡ false → b ≡ true → r ≡ reaches → (not a && cond b (r && ends_by_content framing (shown_of s p)) (is_behind_missing s p.0)) ≡ (reaches && ends_by_content framing (shown_of s p))
+    by false true r e f h = ap (λ (x : Bool). x && ends_by_content framing (shown_of s p)) h
+    by true b r e f h = absurd (let bad = e in cc)
+    by false false r e f h = absurd (let bad = f in cc)
+
+-- and before one of another timestamp
+pub ends_else : (s : Assembly) (framing : Framing) (p : ℕ × RtpBody) → bears_nothing p.1.payload ≡ false → is_unit_at s.unit p.1.timestamp ≡ false → ends_before s framing p ≡ is_behind_missing s p.0
+ends_else s framing p = by (bears_nothing p.1.payload) (is_unit_at s.unit p.1.timestamp)
+  where
+    by : (a b : Bool) → a ≡ false → b ≡ false → (not a && cond b (is_in_reach s p.0 && ends_by_content framing (shown_of s p)) (is_behind_missing s p.0)) ≡ is_behind_missing s p.0
+    by false false e f = refl
+    by true b e f = absurd (let bad = e in cc)
+    by false true e f = absurd (let bad = f in cc)
+
+-- the counts of a packet that isn't refused, by whether a text was given up where it was taken
+pub counts_as : (s : Assembly) (c : Counts) (at : Framing) (p : ℕ × RtpBody) (marker still unbelieved x y : Bool) (answer : Received) →
+    still ≡ begins_still s at p → unbelieved ≡ (marker && not p.1.marker) → (bears_nothing p.1.payload ≡ false → is_taken (Ok answer) ≡ true → x ≡ y) →
+    cond (is_one_taken p answer) (counted_framing (counted_due s.expected c p (Ok answer) x) still unbelieved) (counted_due s.expected c p (Ok answer) x)
+    ≡ counts_answered s c at p marker y (Ok answer)
+counts_as s c at p marker still unbelieved x y answer is_still is_unbelieved text =
+    ap (λ (d : Counts). cond (is_one_taken p answer) (counted_framing d still unbelieved) d) (counted_as s.expected c p answer x y text)
+    ∙ ap (λ (b : Bool). cond (is_one_taken p answer) (counted_framing (counted_due s.expected c p (Ok answer) y) b unbelieved) (counted_due s.expected c p (Ok answer) y)) is_still
+    ∙ ap (λ (b : Bool). cond (is_one_taken p answer) (counted_framing (counted_due s.expected c p (Ok answer) y) (begins_still s at p) b) (counted_due s.expected c p (Ok answer) y)) is_unbelieved
+
+-- what stands once the first that ended was passed over, by its parts
+pub passed_front : (s : Reception) (unit : AccessUnitValue) (rest : List AccessUnitValue) (numbers : NumbersSoFar) (decoder : DecoderState) →
+    s.assembler.ended ≡ unit ∷ rest → numbers ≡ numbers_carrying (without_first_ended s.numbers) (first_ended s.numbers).missing →
+    decoder ≡ decoder_with s.decoder s.waiting.config.has_sets s.assembler.state.is_avc unit (first_ended s.numbers) →
+    first_passed s ≡ record s { assembler = record s.assembler { ended = rest }; numbers = numbers; decoder = decoder }
+passed_front s unit rest numbers decoder is n d =
+    ap (first_passed_of s) is
+    ∙ ap (λ (x : NumbersSoFar). record s { assembler = record s.assembler { ended = rest }; numbers = x; decoder = decoder_with s.decoder s.waiting.config.has_sets s.assembler.state.is_avc unit (first_ended s.numbers) }) (sym n)
+    ∙ ap (λ (x : DecoderState). record s { assembler = record s.assembler { ended = rest }; numbers = numbers; decoder = x }) (sym d)
+
+-- once those without bytes are passed over
+pub drained_bare : (now : ℕ) (s t u : Reception) → IsDrained now s t → u ≡ without_bare t → IsDrained now s u
+drained_bare now s t u before is = subst (IsDrained now s) (sym is) (bare before)
+
+-- where none is left
+pub none_is_left : (units : List AccessUnitValue) (none_left : Bool) → none_left ≡ has_no_unit units → none_left ≡ true → units ≡ []
+none_is_left units none_left is holds = none_of_units units (sym is ∙ holds)
+
+-- where no step was taken
+pub no_step : (now : ℕ) (s t u : Reception) (took : Bool) → IsDrained now s t → IsStepOrNone now t took u → took ≡ false → IsDrained now s u
+no_step now s t u true before it is = absurd (let bad = is in cc)
+no_step now s t u false before it is = subst (IsDrained now s) (sym it.1) before
+
+-- a step leaves less than there was before those without bytes were passed over
+pub bare_step_falls : (now : ℕ) (s u t : Reception) → u ≡ without_bare s → u.assembler.ended ≡ [] → IsStep now u t → work_left t.waiting t.assembler.unit < work_left s.waiting s.assembler.unit
+bare_step_falls now s u t is empty taken =
+    subst (λ (n : ℕ). work_left t.waiting t.assembler.unit < n) (ap (λ (r : Reception). work_left r.waiting r.assembler.unit) is ∙ bare_keeps s) (step_falls now u t empty taken)
+
+-- where the first has no bytes there is one
+pub some_bare : (units : List AccessUnit) → has_bare (map access_unit_value units) ≡ true → (length units == 0) ≡ false
+some_bare [] is = absurd (let bad = is in cc)
+some_bare (unit ∷ units) is = grind (arith, nat_tests)

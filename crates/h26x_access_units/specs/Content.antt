@@ -39,7 +39,8 @@ slice is_first is_key is_unreferenced layer = record {
 
 -- The kind of an H.264 unit by its nal_ref_idc, its type and the byte behind its header
 -- (Recommendation H.264, 7.3.1, table 7-1): the first slice of a picture has first_mb_in_slice 0
--- (7.4.3), whose code is the bit 1 (9.1); nothing refers to a picture of nal_ref_idc 0 (7.4.1).
+-- (7.4.3), whose code is the bit 1 (9.1); nothing refers to a picture of nal_ref_idc 0 (7.4.1); SEI and
+-- types 14 to 18 stand before slices (7.4.1.2.3).
 abbrev pub h264_kind_by : ℕ → ℕ → ℕ → UnitKind
 h264_kind_by ref_idc type behind =
     if type == 7 then kinds.Sps 0
@@ -47,7 +48,8 @@ h264_kind_by ref_idc type behind =
     else (if type == 9 then kinds.Delimiter
     else (if type == 1 || (type == 2 || type == 5)
     then kinds.Slice (slice (is_set behind 7) (type == 5) (ref_idc == 0) 0)
-    else kinds.Other)))
+    else (if (type == 6) || (nat_le 14 type && nat_le type 18) then kinds.Prefix
+    else kinds.Other))))
 
 -- so of what stands from its first byte on
 abbrev pub h264_kind : List ℕ → UnitKind
@@ -57,7 +59,8 @@ h264_kind unit =
 -- The kind of an H.265 unit of the base layer by its type, its temporal layer and the byte behind its
 -- header (Recommendation H.265, 7.3.1.2, table 7-1): the first slice of a picture has
 -- first_slice_segment_in_pic_flag 1 (7.3.6.1); slices of an even type under 16 are of sub-layer
--- non-reference pictures; a sequence parameter set tells how many temporal layers there are (7.3.2.2).
+-- non-reference pictures; a sequence parameter set tells how many temporal layers there are (7.3.2.2);
+-- prefix SEI and types 41 to 44 stand before slices (7.4.2.4.4).
 abbrev pub h265_kind_by : ℕ → ℕ → ℕ → UnitKind
 h265_kind_by type layer behind =
     if type == 32 then kinds.Vps
@@ -67,7 +70,8 @@ h265_kind_by type layer behind =
     else (if nat_lt type 10 || (nat_le 16 type && nat_le type 21)
     then kinds.Slice (slice (is_set behind 7) (nat_le 16 type)
     (nat_lt type 16 && (field type 0 0 == 0)) layer)
-    else kinds.Other))))
+    else (if (type == 39) || (nat_le 41 type && nat_le type 44) then kinds.Prefix
+    else kinds.Other)))))
 
 -- so of what stands from its first byte on; of another layer, and where nuh_temporal_id_plus1 is 0, as
 -- no header has it, it is another unit
@@ -80,7 +84,8 @@ h265_kind unit =
 
 -- The kind of an H.266 unit of the base layer by its type and the byte behind its header
 -- (Recommendation H.266, 7.3.1.2, table 5): a slice that bears the picture header is the first (7.3.7);
--- ph_non_ref_pic_flag is the second bit of that (7.3.2.8).
+-- ph_non_ref_pic_flag is the second bit of that (7.3.2.8); operation points, decoding capabilities,
+-- prefix adaptation parameters and SEI, and type 26 stand before slices (7.4.2.4.3).
 abbrev pub h266_kind_by : ℕ → ℕ → UnitKind
 h266_kind_by type behind =
     if type == 14 then kinds.Vps
@@ -91,7 +96,8 @@ h266_kind_by type behind =
     else (if nat_lt type 4 || (nat_le 7 type && nat_le type 10)
     then kinds.Slice (slice (is_set behind 7) (nat_le 7 type && nat_le type 9)
     (is_set behind 7 && is_set behind 5) 0)
-    else kinds.Other)))))
+    else (if (type == 12) || ((type == 13) || ((type == 17) || ((type == 23) || (type == 26))))
+    then kinds.Prefix else kinds.Other))))))
 
 -- so of what stands from its first byte on; of another layer, and where nuh_temporal_id_plus1 is 0, as
 -- no header has it, it is another unit

@@ -21,11 +21,14 @@ no_counts = record {
   stray = 0;
   refused = 0;
   skipped = 0;
+  no_unit = 0;
   anew = 0;
   units = 0;
   whole = 0;
   units_given_up = 0;
   texts_given_up = 0;
+  still = 0;
+  unbelieved = 0;
 }
 
 -- so many more, to 2^64 - 1
@@ -82,6 +85,22 @@ counted_skip c (Late n) = record c { late = count_up c.late 1 }
 counted_skip c answer = record c {
   skipped = count_up c.skipped 1;
   lost = count_up c.lost (missing_told answer);
+}
+
+-- one that is refused and bears nothing to be written
+abbrev pub counted_no_unit : Counts → Received → Counts
+counted_no_unit c (Late n) = record c { late = count_up c.late 1 }
+counted_no_unit c answer = record c {
+  no_unit = count_up c.no_unit 1;
+  lost = count_up c.lost (missing_told answer);
+}
+
+-- whether an access unit began at the timestamp of the one before by its units, and whether a marker
+-- isn't believed
+abbrev pub counted_framing : Counts → Bool → Bool → Counts
+counted_framing c still unbelieved = record c {
+  still = count_up c.still (if still then 1 else 0);
+  unbelieved = count_up c.unbelieved (if unbelieved then 1 else 0);
 }
 
 -- any packet that was due, where a number was expected

@@ -1,5 +1,6 @@
 pub mod Arrival
 pub mod Pushed
+pub mod Framing
 pub mod JitterBuffer
 pub mod Numbers
 pub mod Counts
@@ -7,5 +8,6 @@ pub mod Content
 pub mod Decoder
 pub mod ReceivedAccessUnit
 pub mod Reception
+pub mod Decodable
 pub mod Missing
 pub mod Limits

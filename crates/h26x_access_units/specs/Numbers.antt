@@ -1,5 +1,6 @@
 -- The sequence numbers of the packets of access units (RFC 3550, 5.1; ours).
 use Rattle.std.specs.Prelude.{ℕ, ◌+◌, ◌-◌, ◌^◌, ◌==◌, min, Bool, true, false, ◌&&◌, if◌then◌else◌, List, [], ◌∷◌, Option, Some, None, Result, Ok, Err}
+use Rattle.std.specs.Option.{option_map}
 use Rattle.h26x_core.specs.declared.error.PacketError.{PacketError}
 use Rattle.h26x_receiver.specs.declared.received.Received.{Received}
 use Rattle.h26x_receiver.specs.declared.received.Received.TheVariants.{Gap, TooLong, Late}
@@ -31,6 +32,7 @@ fresh_numbers = record {
   marked = None;
   has_begun = false;
   skipped_gap = 0;
+  carried = 0;
   ended = None;
   ended_by_marker = None;
 }
@@ -45,13 +47,14 @@ is_timestamp None timestamp = false
 is_timestamp (Some marked) timestamp = marked == timestamp
 
 -- the numbers of an access unit of which a packet is the first: it follows the one before where a
--- packet was taken before it, and none is missing between
-abbrev pub begun_numbers : Option ℕ → Bool → ℕ × RtpBody → ℕ → AccessUnitNumbers
-begun_numbers marked has_begun p missing = record {
+-- packet was taken before it, and none is missing between; with it as many are told that were
+-- missing of others
+abbrev pub begun_numbers : Option ℕ → Bool → ℕ → ℕ × RtpBody → ℕ → AccessUnitNumbers
+begun_numbers marked has_begun carried p missing = record {
   timestamp = p.1.timestamp;
   first = p.0;
   last = p.0;
-  missing = missing;
+  missing = missing_sum missing carried;
   continues = is_timestamp marked p.1.timestamp;
   follows = has_begun && (missing == 0);
 }
@@ -64,16 +67,22 @@ numbers_to unit p missing = record unit {
 }
 
 -- the numbers of a packet's access unit: the one that is open, where it has its timestamp
-abbrev pub numbers_with : Option AccessUnitNumbers → Option ℕ → Bool → ℕ × RtpBody → ℕ →
+abbrev pub numbers_with : Option AccessUnitNumbers → Option ℕ → Bool → ℕ → ℕ × RtpBody → ℕ →
     AccessUnitNumbers
-numbers_with None marked has_begun p missing = begun_numbers marked has_begun p missing
-numbers_with (Some unit) marked has_begun p missing =
+numbers_with None marked has_begun carried p missing =
+    begun_numbers marked has_begun carried p missing
+numbers_with (Some unit) marked has_begun carried p missing =
     if unit.timestamp == p.1.timestamp then numbers_to unit p missing
-    else begun_numbers marked has_begun p missing
+    else begun_numbers marked has_begun carried p missing
 
 -- so of what is known so far
 abbrev pub unit_numbers : NumbersSoFar → ℕ × RtpBody → ℕ → AccessUnitNumbers
-unit_numbers n p missing = numbers_with n.unit n.marked n.has_begun p missing
+unit_numbers n p missing = numbers_with n.unit n.marked n.has_begun n.carried p missing
+
+-- how many are still to be told with a later one: none once one begins
+abbrev pub carried_behind : Option AccessUnitNumbers → ℕ → ℕ → ℕ
+carried_behind None carried timestamp = 0
+carried_behind (Some unit) carried timestamp = if unit.timestamp == timestamp then carried else 0
 
 -- the numbers of the access unit that a timestamp ends, if it is another one
 abbrev pub numbers_ended : Option AccessUnitNumbers → ℕ → Option AccessUnitNumbers
@@ -93,6 +102,7 @@ after_packet n p missing = record {
   marked = if p.1.marker then Some p.1.timestamp else None;
   has_begun = true;
   skipped_gap = 0;
+  carried = carried_behind n.unit n.carried p.1.timestamp;
   ended = numbers_ended n.unit p.1.timestamp;
   ended_by_marker = if p.1.marker
       then Some (unit_numbers n p (missing_sum n.skipped_gap missing)) else None;
@@ -130,6 +140,35 @@ after_missing n missing = record n {
   skipped_gap = missing_sum n.skipped_gap missing;
   ended = n.unit;
 }
+
+-- once the access unit that is open ended by itself, as by a marker
+abbrev pub numbers_closed : NumbersSoFar → NumbersSoFar
+numbers_closed n = record n {
+  unit = None;
+  marked = option_map (λ unit. unit.timestamp) n.unit;
+  ended = n.unit;
+}
+
+-- where the access unit that begins has the timestamp of the one before, by its units: it doesn't go on
+-- with that
+abbrev pub numbers_still : Bool → NumbersSoFar → NumbersSoFar
+numbers_still stands_still n = if stands_still then record n { marked = None } else n
+
+-- with as many more missing before the access unit that is given out next: the one that ended by its
+-- marker, or the one that is open, or the one that the next packet begins
+abbrev pub numbers_carrying_to : NumbersSoFar → Option AccessUnitNumbers → Option AccessUnitNumbers →
+    ℕ → NumbersSoFar
+numbers_carrying_to n (Some ended) unit missing = record n {
+  ended_by_marker = Some (record ended { missing = missing_sum ended.missing missing });
+}
+numbers_carrying_to n None (Some unit) missing = record n {
+  unit = Some (record unit { missing = missing_sum unit.missing missing });
+}
+numbers_carrying_to n None None missing = record n { carried = missing_sum n.carried missing }
+
+-- so of what is known so far
+abbrev pub numbers_carrying : NumbersSoFar → ℕ → NumbersSoFar
+numbers_carrying n missing = numbers_carrying_to n n.ended_by_marker n.unit missing
 
 -- once the number of the first packet is told
 abbrev pub begun_numbers_at : NumbersSoFar → NumbersSoFar

@@ -4,7 +4,8 @@ ghost use Rattle.std.specs.Prelude.{◌≡◌, ℕ, Bool, List, true, false, ◌
 ghost use Rattle.h26x_access_units.specs.Arrival.{arrival_of, without_number, not_passed, is_first_passed, deadline_of, has_waited};
 ghost use Rattle.h26x_access_units.specs.Missing.{missing_numbers};
 ghost use Rattle.h26x_access_units.specs.Numbers.{missing_sum, missing_up_to, fresh_numbers, numbers_after};
-ghost use Rattle.h26x_access_units.specs.Counts.{no_counts, count_up, counted_due};
+ghost use Rattle.h26x_access_units.specs.Counts.{no_counts, count_up, counted_push, counted_reason, counted_due, counted_no_unit, counted_framing};
+ghost use Rattle.h26x_access_units.specs.Pushed.{is_kept, not_pushed_reason};
 ghost use Rattle.h26x_model.specs.Receive.DepacketizerState.{DepacketizerState};
 ghost use Rattle.h26x_core.specs.Sequence.{is_late};
 ghost use Rattle.h26x_reorder.specs.Rtp.{rtp_body};
@@ -18,10 +19,13 @@ ghost use Rattle.h26x_core.specs.declared.extra.CodecExtra.TheVariants as extras
 ghost use Rattle.h26x_access_units.specs.declared.content.UnitKind.TheVariants as kinds;
 ghost use Rattle.h26x_access_units.specs.Content.{no_sets, all_sets, no_content, slice, h264_kind, h265_kind, h266_kind, content_from, content_of};
 ghost use Rattle.h26x_access_units.specs.Decoder.{fresh_decoder, are_enough, is_front, is_disposable, tells_whole, shows, decoder_after};
-ghost use Rattle.h26x_access_units.specs.Numbers.{numbers_of_none, begun_numbers};
+ghost use Rattle.h26x_access_units.specs.Numbers.{numbers_of_none, begun_numbers, numbers_closed, numbers_still, numbers_carrying};
 ghost use Rattle.h26x_access_units.specs.JitterBuffer.{due_packet, awaited, longest_wait, with_packet};
-ghost use Rattle.h26x_access_units.specs.Reception.{begun_reception, expected_for, begins_behind_missing, ended_behind_missing};
+ghost use Rattle.h26x_access_units.specs.Framing.{begins_behind_slice, goes_on_with, fresh_framing, trusts_markers, ends_by_content, framing_with, believes, framing_marked, is_end_unit, bears_no_unit};
+ghost use Rattle.h26x_access_units.specs.declared.framing.Shown.{Shown};
+ghost use Rattle.h26x_access_units.specs.Reception.{begun_reception, expected_for, ends_before, ended_behind_missing, without_bare, after_reception, after_finish, restarted};
 
+use crate::pushed::{NotPushedReason, Pushed};
 use h26x_core::PacketError;
 use h26x_receiver::Received;
 
@@ -114,20 +118,22 @@ pub fn packets_refused_that_are_counted()
 pub fn packets_taken_at_once()
     ensures due { (config : AccessUnitConfig) (state : DepacketizerState) →
         let b = buffer_state 4 (Some 7) [] in let j = record (fresh_jitter config) { buffer = b } in
-        is_taken_at_once (record (fresh_reception config state) { waiting = j }) 7 ≡ true }
+        is_taken_at_once (record (fresh_reception config state) { waiting = j })
+        (7, rtp_body 0 false []) ≡ true }
     ensures waits { (config : AccessUnitConfig) (state : DepacketizerState) →
         let b = buffer_state 4 (Some 7) ((9, rtp_body 0 false []) ∷ []) in
         let j = record (fresh_jitter config) { buffer = b } in
-        is_taken_at_once (record (fresh_reception config state) { waiting = j }) 7 ≡ false }
+        is_taken_at_once (record (fresh_reception config state) { waiting = j })
+        (7, rtp_body 0 false []) ≡ false }
     ensures anew { (config : AccessUnitConfig) (state : DepacketizerState) →
         let b = buffer_state 4 (Some 7) [] in let j = record (fresh_jitter config) { buffer = b } in
         let s = record (fresh_reception config state) { waiting = j } in
-        is_taken_at_once (record s { is_anew = true }) 7 ≡ false }
+        is_taken_at_once (record s { is_anew = true }) (7, rtp_body 0 false []) ≡ false }
     ensures ended { (config : AccessUnitConfig) (state : DepacketizerState) →
         let b = buffer_state 4 (Some 7) [] in let j = record (fresh_jitter config) { buffer = b } in
         let s = record (fresh_reception config state) { waiting = j } in
         let f = record s.assembler { ended = empty_unit 0 ∷ [] } in
-        is_taken_at_once (record s { assembler = f }) 7 ≡ false }
+        is_taken_at_once (record s { assembler = f }) (7, rtp_body 0 false []) ≡ false }
 {}
 
 /// The kinds of H.264 units (table 7-1), and what their slices tell.
@@ -135,7 +141,7 @@ pub fn kinds_of_h264_units()
     ensures sps { h264_kind (0x67 ∷ 0x42 ∷ []) ≡ kinds.Sps 0 }
     ensures pps { h264_kind (0x68 ∷ 0xce ∷ []) ≡ kinds.Pps }
     ensures delimiter { h264_kind (0x09 ∷ 0xf0 ∷ []) ≡ kinds.Delimiter }
-    ensures sei { h264_kind (0x06 ∷ 0x05 ∷ []) ≡ kinds.Other }
+    ensures sei { h264_kind (0x06 ∷ 0x05 ∷ []) ≡ kinds.Prefix }
     ensures idr { h264_kind (0x65 ∷ 0x88 ∷ []) ≡ kinds.Slice (slice true true false 0) }
     ensures second { h264_kind (0x65 ∷ 0x40 ∷ []) ≡ kinds.Slice (slice false true false 0) }
     ensures alone { h264_kind (0x65 ∷ []) ≡ kinds.Slice (slice false true false 0) }
@@ -161,7 +167,7 @@ pub fn kinds_of_h265_units()
     ensures rasl_n { h265_kind (0x10 ∷ 0x03 ∷ 0x80 ∷ []) ≡ kinds.Slice (slice true false true 3) }
     ensures rasl_r { h265_kind (0x12 ∷ 0x03 ∷ 0x80 ∷ []) ≡ kinds.Slice (slice true false false 3) }
     ensures reserved_n { h265_kind (0x14 ∷ 0x01 ∷ 0x80 ∷ []) ≡ kinds.Other }
-    ensures sei { h265_kind (0x4e ∷ 0x01 ∷ []) ≡ kinds.Other }
+    ensures sei { h265_kind (0x4e ∷ 0x01 ∷ []) ≡ kinds.Prefix }
     ensures layer { h265_kind (0x40 ∷ 0x09 ∷ []) ≡ kinds.Other }
     ensures high_layer { h265_kind (0x41 ∷ 0x01 ∷ []) ≡ kinds.Other }
     ensures no_layer { h265_kind (0x02 ∷ 0x00 ∷ 0x80 ∷ []) ≡ kinds.Other }
@@ -345,9 +351,9 @@ pub fn access_units_told_whole()
 
 /// An access unit follows where a packet was taken before its first, and none is missing between.
 pub fn access_units_that_follow()
-    ensures follows { (begun_numbers None true (7, rtp_body 0 false []) 0).follows ≡ true }
-    ensures gap { (begun_numbers None true (7, rtp_body 0 false []) 1).follows ≡ false }
-    ensures begins { (begun_numbers None false (7, rtp_body 0 false []) 0).follows ≡ false }
+    ensures follows { (begun_numbers None true 0 (7, rtp_body 0 false []) 0).follows ≡ true }
+    ensures gap { (begun_numbers None true 0 (7, rtp_body 0 false []) 1).follows ≡ false }
+    ensures begins { (begun_numbers None false 0 (7, rtp_body 0 false []) 0).follows ≡ false }
 {}
 
 /// The packet that begins the stream waits for its own time, and none before it is missing.
@@ -375,26 +381,26 @@ pub fn a_stream_that_begins()
 pub fn access_units_behind_missing_numbers()
     ensures behind { (config : AccessUnitConfig) (state : DepacketizerState) →
         let a = record (fresh_reception config state).assembler { expected = Some 7 } in
-        begins_behind_missing a (9, rtp_body 20 false (0x61 ∷ [])) ≡ true }
+        ends_before a fresh_framing (9, rtp_body 20 false (0x61 ∷ [])) ≡ true }
     ensures follows { (config : AccessUnitConfig) (state : DepacketizerState) →
         let a = record (fresh_reception config state).assembler { expected = Some 7 } in
-        begins_behind_missing a (7, rtp_body 20 false (0x61 ∷ [])) ≡ false }
+        ends_before a fresh_framing (7, rtp_body 20 false (0x61 ∷ [])) ≡ false }
     ensures refused { (config : AccessUnitConfig) (state : DepacketizerState) →
         let a = record (fresh_reception config state).assembler { expected = Some 7; is_gap = true } in
-        begins_behind_missing a (7, rtp_body 20 false (0x61 ∷ [])) ≡ true }
+        ends_before a fresh_framing (7, rtp_body 20 false (0x61 ∷ [])) ≡ true }
     ensures late { (config : AccessUnitConfig) (state : DepacketizerState) →
         let a = record (fresh_reception config state).assembler { expected = Some 7 } in
-        begins_behind_missing a (6, rtp_body 20 false (0x61 ∷ [])) ≡ false }
+        ends_before a fresh_framing (6, rtp_body 20 false (0x61 ∷ [])) ≡ false }
     ensures same { (config : AccessUnitConfig) (state : DepacketizerState) →
         let a = record (fresh_reception config state).assembler
         { expected = Some 7; unit = Some (empty_unit 20) } in
-        begins_behind_missing a (9, rtp_body 20 false (0x61 ∷ [])) ≡ false }
+        ends_before a fresh_framing (9, rtp_body 20 false (0x61 ∷ [])) ≡ false }
     ensures expected { expected_for None (9, rtp_body 20 false (0x61 ∷ [])) ≡ Some 9 }
     ensures expected_none { expected_for None (9, rtp_body 20 false []) ≡ None }
     ensures expected_other { expected_for (Some 7) (9, rtp_body 20 false (0x61 ∷ [])) ≡ Some 7 }
     ensures nothing { (config : AccessUnitConfig) (state : DepacketizerState) →
         let a = record (fresh_reception config state).assembler { expected = Some 7 } in
-        begins_behind_missing a (9, rtp_body 20 false []) ≡ false }
+        ends_before a fresh_framing (9, rtp_body 20 false []) ≡ false }
     ensures ended { (config : AccessUnitConfig) (state : DepacketizerState) →
         let a = record (fresh_reception config state).assembler
         { expected = Some 7; unit = Some (empty_unit 20) } in
@@ -402,4 +408,217 @@ pub fn access_units_behind_missing_numbers()
         (9, rtp_body 30 false (0x61 ∷ [])) in
         (s.assembler.ended ≡ record (empty_unit 20) { is_whole = false } ∷ [])
         × (s.assembler.expected ≡ None) × (s.counts.lost ≡ 2) × (s.numbers.skipped_gap ≡ 2) }
+{}
+
+/// Units that stand before the slices of an access unit, by their types; those beside them don't.
+pub fn units_that_stand_before_slices()
+    ensures sei { h264_kind (0x06 ∷ []) ≡ kinds.Prefix }
+    ensures h264 { h264_kind (0x6e ∷ []) ≡ kinds.Prefix }
+    ensures h264_last { h264_kind (0x72 ∷ []) ≡ kinds.Prefix }
+    ensures auxiliary { h264_kind (0x73 ∷ []) ≡ kinds.Other }
+    ensures filler { h264_kind (0x0c ∷ []) ≡ kinds.Other }
+    ensures h265_sei { h265_kind (0x4e ∷ 0x01 ∷ []) ≡ kinds.Prefix }
+    ensures h265_suffix { h265_kind (0x50 ∷ 0x01 ∷ []) ≡ kinds.Other }
+    ensures h265 { h265_kind (0x52 ∷ 0x01 ∷ []) ≡ kinds.Prefix }
+    ensures h265_last { h265_kind (0x58 ∷ 0x01 ∷ []) ≡ kinds.Prefix }
+    ensures h265_behind { h265_kind (0x5a ∷ 0x01 ∷ []) ≡ kinds.Other }
+    ensures points { h266_kind (0x00 ∷ 0x61 ∷ []) ≡ kinds.Prefix }
+    ensures capabilities { h266_kind (0x00 ∷ 0x69 ∷ []) ≡ kinds.Prefix }
+    ensures adaptation { h266_kind (0x00 ∷ 0x89 ∷ []) ≡ kinds.Prefix }
+    ensures suffix_adaptation { h266_kind (0x00 ∷ 0x91 ∷ []) ≡ kinds.Other }
+    ensures h266_sei { h266_kind (0x00 ∷ 0xb9 ∷ []) ≡ kinds.Prefix }
+    ensures h266_suffix { h266_kind (0x00 ∷ 0xc1 ∷ []) ≡ kinds.Other }
+    ensures reserved { h266_kind (0x00 ∷ 0xd1 ∷ []) ≡ kinds.Prefix }
+    ensures reserved_other { h266_kind (0x00 ∷ 0xd9 ∷ []) ≡ kinds.Other }
+{}
+
+/// What begins an access unit behind a slice, and what goes on with a picture.
+pub fn units_that_begin_access_units()
+    ensures first { begins_behind_slice (Some (kinds.Slice (slice true false false 0))) ≡ true }
+    ensures second { begins_behind_slice (Some (kinds.Slice (slice false false false 0))) ≡ false }
+    ensures delimiter { begins_behind_slice (Some kinds.Delimiter) ≡ true }
+    ensures set { begins_behind_slice (Some (kinds.Sps 1)) ≡ true }
+    ensures header { begins_behind_slice (Some (kinds.PictureHeader false)) ≡ true }
+    ensures prefix { begins_behind_slice (Some kinds.Prefix) ≡ true }
+    ensures other { begins_behind_slice (Some kinds.Other) ≡ false }
+    ensures none { begins_behind_slice None ≡ false }
+    ensures goes_on { goes_on_with (Some (kinds.Slice (slice false false false 0))) ≡ true }
+    ensures goes_on_first { goes_on_with (Some (kinds.Slice (slice true false false 0))) ≡ false }
+    ensures goes_on_other { goes_on_with (Some kinds.Other) ≡ false }
+    ensures goes_on_none { goes_on_with None ≡ false }
+{}
+
+/// A marker is believed once a slice came, unless the sender marks each slice; then, and where none was
+/// believed yet or timestamps stand still, access units end by their units.
+pub fn markers_that_are_believed()
+    ensures slice { believes (record fresh_framing { has_slice = true }) true ≡ true }
+    ensures unset { believes (record fresh_framing { has_slice = true }) false ≡ false }
+    ensures no_slice { believes fresh_framing true ≡ false }
+    ensures each { believes (record fresh_framing { has_slice = true; marks_slices = true }) true
+        ≡ false }
+    ensures trusted { trusts_markers (record fresh_framing { is_marked = true }) ≡ true }
+    ensures none_yet { trusts_markers fresh_framing ≡ false }
+    ensures none_with_each { trusts_markers (record fresh_framing
+        { is_marked = true; marks_slices = true }) ≡ false }
+    ensures none_still { trusts_markers (record fresh_framing
+        { is_marked = true; stands_still = true }) ≡ false }
+    ensures marked { framing_marked fresh_framing true ≡ record fresh_framing { is_marked = true } }
+    ensures stays { framing_marked (record fresh_framing { is_marked = true }) false
+        ≡ record fresh_framing { is_marked = true } }
+{}
+
+/// Where a slice came and markers aren't trusted, an access unit ends before what begins another.
+pub fn access_units_that_end_by_content()
+    ensures ends { let first = Some (kinds.Slice (slice true false false 0)) in
+        let it = record fresh_framing { has_slice = true } in
+        let shown : Shown = record { has_slice = true; first = first } in
+        ends_by_content it shown ≡ true }
+    ensures trusted { let first = Some (kinds.Slice (slice true false false 0)) in
+        let it = record fresh_framing { has_slice = true; is_marked = true } in
+        let shown : Shown = record { has_slice = true; first = first } in
+        ends_by_content it shown ≡ false }
+    ensures no_slice { let shown : Shown = record { has_slice = false; first = Some kinds.Delimiter } in
+        ends_by_content fresh_framing shown ≡ false }
+    ensures second { let first = Some (kinds.Slice (slice false false false 0)) in
+        let it = record fresh_framing { has_slice = true } in
+        let shown : Shown = record { has_slice = true; first = first } in
+        ends_by_content it shown ≡ false }
+{}
+
+/// What packets show of a sender: that it marks each slice, and that timestamps stand still.
+pub fn what_packets_show_of_a_sender()
+    ensures comes { let shown : Shown = record { has_slice = true; first = None } in
+        (framing_with fresh_framing true false shown).has_slice ≡ true }
+    ensures came { let shown : Shown = record { has_slice = false; first = None } in
+        (framing_with (record fresh_framing { has_slice = true }) true false shown).has_slice ≡ true }
+    ensures other { let shown : Shown = record { has_slice = false; first = None } in
+        (framing_with (record fresh_framing { has_slice = true }) false false shown).has_slice
+        ≡ false }
+    ensures each { let first = Some (kinds.Slice (slice false false false 0)) in
+        let shown : Shown = record { has_slice = true; first = first } in
+        (framing_with fresh_framing false true shown).marks_slices ≡ true }
+    ensures not_behind { let first = Some (kinds.Slice (slice false false false 0)) in
+        let shown : Shown = record { has_slice = true; first = first } in
+        (framing_with fresh_framing false false shown).marks_slices ≡ false }
+    ensures still { let shown : Shown = record { has_slice = false; first = Some kinds.Delimiter } in
+        let it = framing_with fresh_framing false true shown in
+        (it.stands_still ≡ true) × (it.marks_slices ≡ false) }
+    ensures moves { let shown : Shown = record { has_slice = false; first = Some kinds.Delimiter } in
+        (framing_with (record fresh_framing { stands_still = true }) false false shown).stands_still
+        ≡ false }
+    ensures stays { let shown : Shown = record { has_slice = false; first = None } in
+        (framing_with (record fresh_framing { stands_still = true }) true false shown).stands_still
+        ≡ true }
+{}
+
+/// Packets that are refused and bear nothing to be written.
+pub fn packets_that_bear_no_unit()
+    ensures pacsi { bears_no_unit (extras.H264 (record { is_keyframe = false }))
+        (PacketError.NaluTypeIsNotHandled 30) (0x7e ∷ []) ≡ true }
+    ensures short { bears_no_unit (extras.H264 (record { is_keyframe = false }))
+        PacketError.ErrShortPacket (0x48 ∷ 0x01 ∷ []) ≡ false }
+    ensures h265 { bears_no_unit (extras.H265 (record { is_keyframe = false }))
+        PacketError.ErrShortPacket (0x48 ∷ 0x01 ∷ []) ≡ true }
+    ensures bitstream { is_end_unit (extras.H265 (record { is_keyframe = false })) (0x4a ∷ 0x01 ∷ [])
+        ≡ true }
+    ensures delimiter { is_end_unit (extras.H265 (record { is_keyframe = false })) (0x46 ∷ 0x01 ∷ [])
+        ≡ false }
+    ensures filler { is_end_unit (extras.H265 (record { is_keyframe = false })) (0x4c ∷ 0x01 ∷ [])
+        ≡ false }
+    ensures h266 { is_end_unit (extras.H266 (record { is_keyframe = false })) (0x00 ∷ 0xa9 ∷ [])
+        ≡ true }
+    ensures h266_bitstream { is_end_unit (extras.H266 (record { is_keyframe = false }))
+        (0x00 ∷ 0xb1 ∷ []) ≡ true }
+    ensures h266_delimiter { is_end_unit (extras.H266 (record { is_keyframe = false }))
+        (0x00 ∷ 0xa1 ∷ []) ≡ false }
+    ensures h266_sei { is_end_unit (extras.H266 (record { is_keyframe = false }))
+        (0x00 ∷ 0xb9 ∷ []) ≡ false }
+    ensures no_codec { is_end_unit extras.None (0x48 ∷ 0xa9 ∷ []) ≡ false }
+    ensures another { bears_no_unit (extras.H265 (record { is_keyframe = false }))
+        PacketError.OutOfMemory (0x48 ∷ 0x01 ∷ []) ≡ false }
+{}
+
+/// What is missing of an access unit without bytes is told with the next one.
+pub fn numbers_that_are_carried()
+    ensures marked { (numbers_carrying (record fresh_numbers {
+      ended_by_marker = Some (record numbers_of_none { missing = 1 });
+      unit = Some numbers_of_none;
+    })
+        2).ended_by_marker ≡ Some (record numbers_of_none { missing = 3 }) }
+    ensures begun { (numbers_carrying (record fresh_numbers
+        { unit = Some (record numbers_of_none { missing = 1 }) }) 2).unit
+        ≡ Some (record numbers_of_none { missing = 3 }) }
+    ensures none { (numbers_carrying (record fresh_numbers { carried = 1 }) 2).carried ≡ 3 }
+    ensures told { let it = begun_numbers None true 3 (7, rtp_body 0 false []) 0 in
+        (it.missing ≡ 3) × (it.follows ≡ true) }
+    ensures told_once { (numbers_after None (record fresh_numbers { carried = 3 })
+        (7, rtp_body 0 false (0x61 ∷ [])) (Ok Received.InOrder)).carried ≡ 0 }
+    ensures closed { let n = numbers_closed (record fresh_numbers
+        { unit = Some (record numbers_of_none { timestamp = 7 }) }) in
+        (n.unit ≡ None) × (n.marked ≡ Some 7)
+        × (n.ended ≡ Some (record numbers_of_none { timestamp = 7 })) }
+    ensures still { numbers_still true (record fresh_numbers { marked = Some 7 }) ≡ fresh_numbers }
+    ensures goes_on { numbers_still false (record fresh_numbers { marked = Some 7 })
+        ≡ record fresh_numbers { marked = Some 7 } }
+{}
+
+/// Access units without bytes that ended first are passed over, and no other.
+pub fn access_units_without_bytes()
+    ensures passed { (config : AccessUnitConfig) (state : DepacketizerState) →
+        let unit = record (empty_unit 7) { bytes = 1 ∷ [] } in
+        let a = record (fresh_reception config state).assembler { ended = empty_unit 5 ∷ unit ∷ [] } in
+        (without_bare (record (fresh_reception config state) { assembler = a })).assembler.ended
+        ≡ unit ∷ [] }
+    ensures kept { (config : AccessUnitConfig) (state : DepacketizerState) →
+        let unit = record (empty_unit 7) { bytes = 1 ∷ [] } in
+        let a = record (fresh_reception config state).assembler { ended = unit ∷ empty_unit 9 ∷ [] } in
+        (without_bare (record (fresh_reception config state) { assembler = a })).assembler.ended
+        ≡ unit ∷ empty_unit 9 ∷ [] }
+{}
+
+/// What is counted of packets that are given to a receiver, and of numbers that are passed.
+pub fn packets_that_are_counted()
+    ensures stray { counted_push no_counts Pushed.Stray ≡ record no_counts { stray = 1 } }
+    ensures anew { counted_push no_counts Pushed.Anew ≡ record no_counts { anew = 1 } }
+    ensures late { counted_push no_counts (Pushed.Late 5) ≡ record no_counts { late = 1 } }
+    ensures twice { counted_push no_counts Pushed.Twice ≡ record no_counts { twice = 1 } }
+    ensures held { counted_push no_counts Pushed.Held ≡ no_counts }
+    ensures full { counted_push no_counts Pushed.Full ≡ no_counts }
+    ensures back_late { counted_reason no_counts (NotPushedReason.Late 5)
+        ≡ record no_counts { late = 1 } }
+    ensures back_twice { counted_reason no_counts NotPushedReason.Twice
+        ≡ record no_counts { twice = 1 } }
+    ensures no_unit { counted_no_unit no_counts (Received.Gap 3)
+        ≡ record no_counts { no_unit = 1; lost = 3 } }
+    ensures no_unit_late { counted_no_unit no_counts (Received.Late 3)
+        ≡ record no_counts { late = 1 } }
+    ensures framing { counted_framing no_counts true true
+        ≡ record no_counts { still = 1; unbelieved = 1 } }
+    ensures framing_none { counted_framing no_counts false false ≡ no_counts }
+{}
+
+/// Why packets come back, by what is answered for them.
+pub fn packets_that_come_back()
+    ensures late { not_pushed_reason (Pushed.Late 5) ≡ NotPushedReason.Late 5 }
+    ensures twice { not_pushed_reason Pushed.Twice ≡ NotPushedReason.Twice }
+    ensures full { not_pushed_reason Pushed.Full ≡ NotPushedReason.Full }
+    ensures held { not_pushed_reason Pushed.Held ≡ NotPushedReason.OutOfMemory }
+    ensures kept { is_kept Pushed.Stray ≡ true }
+    ensures not_kept { is_kept Pushed.Twice ≡ false }
+{}
+
+/// What a stream leaves that begins anew: what waited of it is lost. At its end no stray is left.
+pub fn what_a_stream_leaves()
+    ensures lost { (config : AccessUnitConfig) (state : DepacketizerState) →
+        let b = buffer_state 4 (Some 7) ((9, rtp_body 0 false []) ∷ (11, rtp_body 0 false []) ∷ []) in
+        let s = record (fresh_reception config state) {
+          waiting = record (fresh_jitter config) { buffer = b };
+          stray = Some (40000, rtp_body 0 false []);
+        } in
+        let it = after_reception 0 s (40001, rtp_body 0 false []) Pushed.Anew in
+        (it.counts.lost ≡ 2) × (it.stray ≡ None) × (it.is_anew ≡ true) }
+    ensures end { (config : AccessUnitConfig) (state : DepacketizerState) →
+        let s = record (fresh_reception config state) { stray = Some (7, rtp_body 0 false []) } in
+        ((after_finish s).stray ≡ None) × ((restarted s).stray ≡ None) }
+    ensures gap { (begun_numbers None true 0 (7, rtp_body 0 false []) 3).missing ≡ 3 }
 {}

@@ -71,6 +71,9 @@ pub enum UnitKind {
     PictureHeader(bool),
     /// A slice.
     Slice(Slice),
+    /// Another that stands before the slices of an access unit, as supplemental enhancement
+    /// information does.
+    Prefix,
     /// Any other.
     Other,
 }
@@ -92,7 +95,7 @@ pub struct Content {
 
 /// The byte at a place, 0 behind the end.
 #[inline]
-fn byte_at(unit: &[u8], place: usize) -> u8
+pub(crate) fn byte_at(unit: &[u8], place: usize) -> u8
     ensures { result ≡ get_or unit.now place 0 }
 {
     if place < unit.len() { unit[place] } else { 0 }
@@ -114,6 +117,7 @@ fn h264_kind(unit: &[u8]) -> UnitKind
             is_unreferenced: header >> 5 & 3 == 0,
             layer: 0,
         }),
+        6 | 14..=18 => UnitKind::Prefix,
         _ => UnitKind::Other,
     }
 }
@@ -140,6 +144,7 @@ fn h265_kind(unit: &[u8]) -> UnitKind
             is_unreferenced: kind < 16 && kind & 1 == 0,
             layer: second & 7,
         }),
+        39 | 41..=44 => UnitKind::Prefix,
         _ => UnitKind::Other,
     }
 }
@@ -167,13 +172,14 @@ fn h266_kind(unit: &[u8]) -> UnitKind
             is_unreferenced: third >> 7 != 0 && third >> 5 & 1 != 0,
             layer: 0,
         }),
+        12 | 13 | 17 | 23 | 26 => UnitKind::Prefix,
         _ => UnitKind::Other,
     }
 }
 
 /// The kind of a unit, by what is told of its codec; where nothing is told any other.
 #[inline]
-fn content_kind(extra: CodecExtra, unit: &[u8]) -> UnitKind
+pub(crate) fn content_kind(extra: CodecExtra, unit: &[u8]) -> UnitKind
     ensures { result ≡ content_kind extra unit.now }
 {
     match extra {
@@ -252,7 +258,7 @@ impl Content {
                     None => slice,
                 });
             }
-            UnitKind::Delimiter | UnitKind::Other => {}
+            UnitKind::Delimiter | UnitKind::Prefix | UnitKind::Other => {}
         }
         self
     }

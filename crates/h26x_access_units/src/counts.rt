@@ -1,7 +1,7 @@
 //! What a receiver counts.
 
 ghost use Rattle.std.specs.Prelude.{◌≡◌, ℕ, Option, Ok};
-ghost use Rattle.h26x_access_units.specs.Counts.{no_counts, given_up, counted_answer, counted_refused, counted_skip, counted_due, counted_push, counted_reason, counted_dropped, counted_unit};
+ghost use Rattle.h26x_access_units.specs.Counts.{no_counts, given_up, counted_answer, counted_refused, counted_skip, counted_due, counted_push, counted_reason, counted_dropped, counted_no_unit, counted_framing, counted_unit};
 
 use crate::numbers::missing_told;
 use crate::pushed::{NotPushedReason, Pushed};
@@ -26,6 +26,10 @@ pub struct Counts {
     pub refused: u64,
     /// Numbers that came and bear nothing.
     pub skipped: u64,
+    /// Packets that were refused and bear nothing to be written: of a type that carries no unit of
+    /// the stream (a STAP-B, an FU-B, a PACSI), or an end of sequence of two bytes. Nothing is lost
+    /// by them.
+    pub no_unit: u64,
     /// How often the stream began anew.
     pub anew: u64,
     /// Access units that were given out.
@@ -36,6 +40,11 @@ pub struct Counts {
     pub units_given_up: u64,
     /// Texts of access units that were given up, since they were longer than the limit.
     pub texts_given_up: u64,
+    /// Access units that began, by their units, at the timestamp of the one before.
+    pub still: u64,
+    /// Markers of packets that were taken that weren't believed: no slice of the access unit had come,
+    /// or the sender marks each slice.
+    pub unbelieved: u64,
 }
 
 /// How many open NAL units were given up.
@@ -61,11 +70,14 @@ impl Counts {
             stray: 0,
             refused: 0,
             skipped: 0,
+            no_unit: 0,
             anew: 0,
             units: 0,
             whole: 0,
             units_given_up: 0,
             texts_given_up: 0,
+            still: 0,
+            unbelieved: 0,
         }
     }
 
@@ -149,6 +161,30 @@ impl Counts {
         } else {
             self.answer(received, text);
         }
+    }
+
+    /// Counts a packet that is refused and bears nothing to be written, by what became of its number.
+    pub(crate) fn pass(&mut self, received: Received)
+        ensures { self.new ≡ counted_no_unit self.old received }
+    {
+        match received {
+            Received::Late(_) => self.late = self.late.saturating_add(1),
+            _ => {
+                let missing = u64::from(missing_told(received));
+                self.no_unit = self.no_unit.saturating_add(1);
+                self.lost = self.lost.saturating_add(missing);
+            }
+        }
+    }
+
+    /// Counts whether an access unit began at the timestamp of the one before, and whether a marker
+    /// isn't believed.
+    #[inline]
+    pub(crate) fn frame(&mut self, still: bool, unbelieved: bool)
+        ensures { self.new ≡ counted_framing self.old still unbelieved }
+    {
+        self.still = self.still.saturating_add(u64::from(still));
+        self.unbelieved = self.unbelieved.saturating_add(u64::from(unbelieved));
     }
 
     /// Counts an access unit that is given out.

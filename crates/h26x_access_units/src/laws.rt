@@ -1,13 +1,14 @@
 //! Laws of the definitions, each the contract of a function without a result.
 
-ghost use Rattle.std.specs.Prelude.{◌≤◌, ◌<◌, ◌^◌, ℕ, List, Option, length};
+ghost use Rattle.std.specs.Prelude.{◌≤◌, ◌<◌, ◌^◌, ℕ, Bool, List, [], Option, length};
 ghost use Rattle.h26x_model.specs.Receive.DepacketizerState.{DepacketizerState};
 ghost use Rattle.h26x_reorder.specs.Rtp.{RtpBody};
 ghost use Rattle.h26x_reorder.specs.ReorderBuffer.{IsHeldInOrder};
 ghost use Rattle.h26x_access_units.specs.declared.config.AccessUnitConfig.{AccessUnitConfig};
 ghost use Rattle.h26x_access_units.specs.Missing.{missing_numbers, AreExactlyMissing};
 ghost use Rattle.h26x_access_units.specs.ReceivedAccessUnit.{ReceivedAccessUnitValue};
-ghost use Rattle.h26x_access_units.specs.Reception.{Reception, fresh_reception, reception_answer, after_reception, IsPushed, IsNext};
+ghost use Rattle.h26x_access_units.specs.Reception.{Reception, fresh_reception, begun_reception, restarted, ended_reception, reception_answer, after_reception, IsPushed, IsNext};
+ghost use Rattle.h26x_access_units.specs.Decodable.{GivenUnit, IsCleanWhereDecodable, WereGiven, IsGivenBehind};
 ghost use Rattle.h26x_access_units.specs.Limits.{IsWithinLimits, StaysWithinLimits};
 
 use crate::pushed::Pushed;
@@ -35,4 +36,31 @@ pub fn packets_taken_at_once_are_as_those_that_wait()
     ensures { (now later : ℕ) (s held new : Reception) (p : ℕ × RtpBody)
         (unit : Option ReceivedAccessUnitValue) → p.0 < 2 ^ 16 → IsPushed now s p Pushed.Held held →
         IsNext later held new unit → IsNext later (after_reception now s p Pushed.Held) new unit }
+{}
+
+/// An access unit is told clean exactly where a decoder can show it: there is one before it, or it is
+/// one, with which a decoder can begin, whose parameter sets came in it or before in order, or were
+/// given; behind each since it goes on, since nothing is missing before it, and it is unbroken or no
+/// picture refers to its own; and it is unbroken itself.
+pub fn clean_access_units_can_be_decoded()
+    ensures { (has_sets : Bool) (unit : GivenUnit) (before : List GivenUnit) →
+        IsCleanWhereDecodable has_sets unit before }
+{}
+
+/// So it is of what a receiver gives out, whatever packets come, at whatever ticks, and whenever access
+/// units are asked for: those that were given to a decoder are all that it gave out, and those without
+/// bytes that it passed over.
+pub fn what_is_given_out_clean_can_be_decoded()
+    ensures fresh { (config : AccessUnitConfig) (state : DepacketizerState) →
+        WereGiven [] (fresh_reception config state) }
+    ensures push { (now : ℕ) (s new : Reception) (p : ℕ × RtpBody) (units : List GivenUnit) →
+        IsPushed now s p (reception_answer s p) new → WereGiven units s → WereGiven units new }
+    ensures next { (now : ℕ) (s new : Reception) (unit : Option ReceivedAccessUnitValue)
+        (units : List GivenUnit) → IsNext now s new unit → WereGiven units s →
+        IsGivenBehind units new unit }
+    ensures finish { (s : Reception) (units : List GivenUnit) → WereGiven units s →
+        WereGiven units (ended_reception s) }
+    ensures restart { (s : Reception) → WereGiven [] (restarted s) }
+    ensures begin { (number : ℕ) (s : Reception) (units : List GivenUnit) → WereGiven units s →
+        WereGiven units (begun_reception number s) }
 {}

@@ -9,6 +9,7 @@ mod config;
 mod content;
 mod counts;
 mod decoder;
+mod framing;
 mod jitter;
 pub mod laws;
 mod numbers;

@@ -1,7 +1,7 @@
 //! The sequence numbers of the packets of access units.
 
 ghost use Rattle.std.specs.Prelude.{◌≡◌, ℕ, Option, Some, Ok};
-ghost use Rattle.h26x_access_units.specs.Numbers.{fresh_numbers, after_missing, begun_numbers_at, unit_numbers, numbers_ended, after_gap, after_packet, missing_told, missing_with, first_ended, without_first_ended, after_last, numbers_after};
+ghost use Rattle.h26x_access_units.specs.Numbers.{fresh_numbers, after_missing, begun_numbers_at, is_timestamp, numbers_closed, numbers_still, numbers_carrying, unit_numbers, carried_behind, numbers_ended, after_gap, after_packet, missing_told, missing_with, first_ended, without_first_ended, after_last, numbers_after};
 
 use h26x_receiver::Received;
 use h26x_reorder::RtpPacket;
@@ -47,6 +47,9 @@ pub(crate) struct NumbersSoFar {
     pub has_begun: bool,
     /// How many are missing since the last packet, before numbers that were skipped.
     pub skipped_gap: u32,
+    /// How many were missing of access units that weren't given out, to be told with the next one that
+    /// begins.
+    pub carried: u32,
     /// Those of the access unit that another timestamp ended, until it is given out.
     pub ended: Option<AccessUnitNumbers>,
     /// Those of the access unit that the marker ended, until it is given out.
@@ -74,6 +77,17 @@ pub(crate) fn missing_told(received: Received) -> u16
     }
 }
 
+/// Whether it is this timestamp.
+#[inline]
+pub(crate) fn is_timestamp(marked: Option<u32>, timestamp: u32) -> bool
+    ensures { result ≡ is_timestamp marked timestamp }
+{
+    match marked {
+        Some(marked) => marked == timestamp,
+        None => false,
+    }
+}
+
 impl NumbersSoFar {
     /// Before any packet.
     pub(crate) fn none() -> Self
@@ -84,6 +98,7 @@ impl NumbersSoFar {
             marked: None,
             has_begun: false,
             skipped_gap: 0,
+            carried: 0,
             ended: None,
             ended_by_marker: None,
         }
@@ -94,6 +109,7 @@ impl NumbersSoFar {
     fn go_on(&mut self, packet: &RtpPacket<'_>, missing: u32)
         ensures { self.new ≡ record self.old {
           unit = Some (unit_numbers self.old packet.now missing);
+          carried = carried_behind self.old.unit self.old.carried packet.now.1.timestamp;
           ended = numbers_ended self.old.unit packet.now.1.timestamp;
         } }
     {
@@ -109,10 +125,11 @@ impl NumbersSoFar {
                     timestamp: packet.timestamp,
                     first: packet.sequence,
                     last: packet.sequence,
-                    missing,
+                    missing: missing.saturating_add(self.carried),
                     continues: self.marked == Some(packet.timestamp),
                     follows: self.has_begun && missing == 0,
                 });
+                self.carried = 0;
             }
         }
     }
@@ -165,6 +182,41 @@ impl NumbersSoFar {
         self.skip(missing);
     }
 
+    /// The access unit that is open ended by itself, as by a marker.
+    pub(crate) fn close(&mut self)
+        ensures { self.new ≡ numbers_closed self.old }
+    {
+        self.marked = match self.unit {
+            Some(unit) => Some(unit.timestamp),
+            None => None,
+        };
+        self.ended = self.unit;
+        self.unit = None;
+    }
+
+    /// Where an access unit begins at the timestamp of the one before, that it doesn't go on with that.
+    #[inline]
+    pub(crate) fn stand(&mut self, stands_still: bool)
+        ensures { self.new ≡ numbers_still stands_still self.old }
+    {
+        if stands_still {
+            self.marked = None;
+        }
+    }
+
+    /// As many more are missing before the access unit that is given out next.
+    pub(crate) fn carry(&mut self, missing: u32)
+        ensures { self.new ≡ numbers_carrying self.old missing }
+    {
+        if let Some(ended) = &mut self.ended_by_marker {
+            ended.missing = ended.missing.saturating_add(missing);
+        } else if let Some(unit) = &mut self.unit {
+            unit.missing = unit.missing.saturating_add(missing);
+        } else {
+            self.carried = self.carried.saturating_add(missing);
+        }
+    }
+
     /// The number of the first packet is told.
     pub(crate) fn begin(&mut self)
         ensures { self.new ≡ begun_numbers_at self.old }
@@ -181,6 +233,7 @@ impl NumbersSoFar {
             marked: None,
             has_begun: false,
             skipped_gap: 0,
+            carried: 0,
             ended: self.unit,
             ended_by_marker: None,
         };

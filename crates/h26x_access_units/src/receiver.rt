@@ -1,31 +1,33 @@
 //! A receiver that takes packets as they come and gives out access units.
 
-ghost use Rattle.std.specs.Prelude.{◌≡◌, ◌^◌, ◌<◌, ◌≤◌, List, true, false, not, [], None, Ok, Err, IfOk, OnOk, OnErr, IfErr, length};
+ghost use Rattle.std.specs.Prelude.{◌≡◌, ◌^◌, ◌<◌, ◌≤◌, ℕ, if◌then◌else◌, Option, List, true, false, not, ◌&&◌, [], None, Ok, Err, IfOk, OnOk, OnErr, IfErr, length};
 ghost use Rattle.std.specs.Option.{option_map};
 ghost use Rattle.h26x_core.specs.Sequence.{missing_count};
-ghost use Rattle.h26x_receiver.specs.Sequenced.{IfTaken};
+ghost use Rattle.h26x_receiver.specs.Sequenced.{IfTaken, skip_answer};
 ghost use Rattle.h26x_reorder.specs.Rtp.{rtp_body};
 ghost use Rattle.h26x_reorder.specs.ReorderBuffer.{numbered_packet};
 ghost use Rattle.h26x_access_units.specs.Pushed.{IsNotPushedReason, is_kept, not_pushed_reason};
-ghost use Rattle.h26x_access_units.specs.Counts.{counted_due};
+ghost use Rattle.h26x_access_units.specs.Counts.{counted_due, counted_no_unit, counted_framing};
+ghost use Rattle.h26x_access_units.specs.Framing.{ends_by_content};
 ghost use Rattle.h26x_access_units.specs.JitterBuffer.{may_tell_first};
 ghost use Rattle.h26x_assembler.specs.Assembler.{assembly_at, gives_text_up};
 ghost use Rattle.h26x_assembler.specs.AccessUnit.{is_text_given_up};
 ghost use Rattle.h26x_assembler.specs.declared.access_unit.AccessUnit.{AccessUnit};
-ghost use Rattle.h26x_access_units.specs.Numbers.{bears_nothing, numbers_after};
+ghost use Rattle.h26x_access_units.specs.Numbers.{bears_nothing, missing_told, after_gap, numbers_after, numbers_closed, numbers_still};
 ghost use Rattle.h26x_access_units.specs.ReceivedAccessUnit.{received_unit_value};
-ghost use Rattle.h26x_access_units.specs.Reception.{fresh_reception, begun_reception, begun_for, expected_for, is_behind_missing, begins_behind_missing, reception_answer, has_no_unit, ended_if_anew, ended_if_over, restarted, unit_given, without_given, assembly_after, lacks_memory, marker_forgotten, is_taken_at_once, is_idle, IsAnswerTo, IsDrained, is_too_far, IsPushAnswer, IsPutAside, refused_reception, IsTakenAsDue, IsDueTakenOrNone, FollowsWhereDue, IsEndedOrFollows, IsStepOrNone, IsStepInPart, NoneIsDueUnlessEnded, IsPushedIfOk, ended_reception, IsDrainedInPart, GivesNext, nack_numbers, AreExactNacks, next_deadline};
+ghost use Rattle.h26x_access_units.specs.Reception.{fresh_reception, begun_reception, begun_for, expected_for, ends_with, after_no_unit, is_behind_missing, is_in_reach, shown_of, ends_before, framing_of, believed, is_one_taken, begins_still, framing_answered, numbers_answered, counts_answered, reception_answer, has_no_unit, has_bare, first_passed, without_bare, ended_if_anew, ended_if_over, restarted, unit_given, without_given, assembly_after, lacks_memory, marker_forgotten, is_taken_at_once, is_idle, IsAnswerTo, IsDrained, is_too_far, IsPushAnswer, IsPutAside, refused_reception, IsTakenAsDue, IsDueTakenOrNone, FollowsWhereDue, IsEndedOrFollows, IsStepOrNone, IsStepInPart, NoneIsDueUnlessEnded, IsPushedIfOk, ended_reception, IsDrainedInPart, GivesNext, nack_numbers, AreExactNacks, next_deadline};
 ghost use Rattle.h26x_access_units.specs.Limits.{StaysWithinLimits};
 
 use crate::config::AccessUnitConfig;
 use crate::counts::Counts;
 use crate::decoder::DecoderState;
+use crate::framing::{Framing, Shown, bears_no_unit, bears_slice, shown_by};
 use crate::jitter::JitterBuffer;
-use crate::numbers::{NumbersSoFar, missing_with};
+use crate::numbers::{NumbersSoFar, is_timestamp, missing_told, missing_with};
 use crate::pushed::{NotPushed, NotPushedReason, Pushed};
-use crate::unit::ReceivedAccessUnit;
+use crate::unit::{self, ReceivedAccessUnit};
 use h26x_assembler::{AccessUnit, AccessUnitAssembler};
-use h26x_core::PacketError;
+use h26x_core::{PacketError, is_next};
 use h26x_depacketizer::RunDepacketizer;
 use h26x_receiver::{Received, SequencedDepacketizer};
 use h26x_reorder::{HeldPacket, RtpPacket};
@@ -40,6 +42,7 @@ pub struct AccessUnitReceiver<D: RunDepacketizer> {
     alloc: Global,
     assembler: AccessUnitAssembler<D>,
     ended: Vec<AccessUnit>,
+    framing: Framing,
     numbers: NumbersSoFar,
     decoder: DecoderState,
     counts: Counts,
@@ -78,41 +81,201 @@ fn take_packet<D: RunDepacketizer>(
     }
 }
 
-/// Gives it a packet that is due, passes over one that it refuses, and notes what became of it. Without
-/// memory all stays as it was.
-fn take_noted<D: RunDepacketizer>(
+/// Passes over a number whose packet is refused and bears nothing to be written. Its marker ends the
+/// access unit that is open. Without memory all stays as it was.
+#[cold]
+#[inline(never)]
+fn pass_no_unit<D: RunDepacketizer>(
     assembler: &mut AccessUnitAssembler<D>,
     ended: &mut Vec<AccessUnit>,
     numbers: &mut NumbersSoFar,
     counts: &mut Counts,
     packet: &RtpPacket<'_>,
+) -> Result<(), PacketError>
+    ensures after { OnOk result (assembly_at D.state assembler.new ended.new.items ≡ marker_forgotten
+        (after_no_unit (assembly_at D.state assembler.old ended.old.items) packet.now)) }
+    ensures numbers { OnOk result (numbers.new ≡ after_gap
+        (if ends_with (assembly_at D.state assembler.old ended.old.items) packet.now
+        then numbers_closed numbers.old else numbers.old)
+        (missing_told (skip_answer assembler.old.packets.expected packet.now.0))) }
+    ensures counts { OnOk result (counts.new ≡ counted_no_unit counts.old
+        (skip_answer assembler.old.packets.expected packet.now.0)) }
+    ensures limit { assembler.new.packets.run_limit ≡ assembler.old.packets.run_limit }
+    ensures unit_limit { assembler.new.unit_limit ≡ assembler.old.unit_limit }
+    ensures memory { OnErr result (result ≡ Err PacketError.OutOfMemory) }
+    ensures kept { OnErr result (assembly_at D.state assembler.new ended.new.items
+        ≡ assembly_at D.state assembler.old ended.old.items) }
+    ensures kept_numbers { OnErr result (numbers.new ≡ numbers.old) }
+    ensures kept_counts { OnErr result (counts.new ≡ counts.old) }
+{
+    let is_next = is_next(assembler.packets.expected, packet.sequence);
+    if packet.marker && assembler.unit.is_at(packet.timestamp) && is_next {
+        assembler.end(ended)?;
+        numbers.close();
+    }
+    let received = assembler.skip(packet.sequence);
+    assembler.forget_marker();
+    numbers.skip(u32::from(missing_told(received)));
+    counts.pass(received);
+    Ok(())
+}
+
+/// Whether a packet was taken, by what was answered: it has a payload and isn't late.
+#[inline]
+fn is_one_taken(packet: &RtpPacket<'_>, received: Received) -> bool
+    ensures { result ≡ is_one_taken packet.now received }
+{
+    !packet.payload.is_empty() && received.is_taken()
+}
+
+/// Whether an access unit begins by its units at the timestamp of the one before.
+#[inline]
+fn begins_still<D: RunDepacketizer>(
+    assembler: &AccessUnitAssembler<D>,
+    at: Framing,
+    packet: &RtpPacket<'_>,
+) -> bool
+    ensures { (ended : List AccessUnit) → result
+        ≡ begins_still (assembly_at D.state assembler.now ended) at packet.now }
+{
+    !assembler.unit.is_at(packet.timestamp) && at.stands_still
+}
+
+/// Whether a marker was set that isn't believed.
+#[inline]
+fn is_unbelieved(marker: bool, packet: &RtpPacket<'_>) -> bool
+    ensures { result ≡ (marker && not packet.now.1.marker) }
+{
+    marker && !packet.marker
+}
+
+/// A packet with its marker where that is believed.
+#[inline]
+fn believed<'a>(at: Framing, packet: &RtpPacket<'a>) -> RtpPacket<'a>
+    ensures { result ≡ believed at packet.now }
+{
+    RtpPacket {
+        sequence: packet.sequence,
+        timestamp: packet.timestamp,
+        marker: at.believes(packet.marker),
+        payload: packet.payload,
+    }
+}
+
+/// Notes of a packet that is due and isn't refused what became of it: `at` is what is known with it of
+/// where access units end.
+#[inline]
+fn note_received(
+    framing: &mut Framing,
+    numbers: &mut NumbersSoFar,
+    counts: &mut Counts,
+    at: Framing,
+    packet: &RtpPacket<'_>,
+    received: Received,
+    unbelieved: bool,
+    still: bool,
+    text: bool,
+)
+    ensures framing { framing.new ≡ framing_answered framing.old at packet.now (Ok received) }
+    ensures numbers { (expected : Option ℕ) → numbers.new ≡ (if is_one_taken packet.now received
+        then numbers_after expected (numbers_still at.stands_still numbers.old) packet.now
+        (Ok received) else numbers_after expected numbers.old packet.now (Ok received)) }
+    ensures counts { (expected : Option ℕ) → counts.new ≡ (if is_one_taken packet.now received
+        then counted_framing (counted_due expected counts.old packet.now (Ok received) text) still
+        unbelieved else counted_due expected counts.old packet.now (Ok received) text) }
+{
+    if !is_one_taken(packet, received) {
+        numbers.note(packet, received);
+        counts.note(packet, received, text);
+        return;
+    }
+    *framing = at.marked(packet.marker);
+    numbers.stand(at.stands_still);
+    numbers.note(packet, received);
+    counts.note(packet, received, text);
+    counts.frame(still, unbelieved);
+}
+
+/// What is known with a packet of where access units end: nothing more than before where it goes on
+/// with an access unit of which a slice came, so that it isn't looked into.
+#[inline]
+fn framing_of<D: RunDepacketizer>(
+    assembler: &AccessUnitAssembler<D>,
+    framing: Framing,
+    numbers: &NumbersSoFar,
+    packet: &RtpPacket<'_>,
+) -> Framing
+    ensures { (ended : List AccessUnit) → result
+        ≡ framing_of (assembly_at D.state assembler.now ended) framing numbers.now packet.now }
+{
+    let is_open = assembler.unit.is_at(packet.timestamp);
+    let is_closed = is_timestamp(numbers.marked, packet.timestamp);
+    if is_open && framing.has_slice && !is_closed {
+        return framing;
+    }
+    let depacketizer = &assembler.packets.depacketizer;
+    if !is_closed {
+        // (what begins doesn't count then)
+        let shown = Shown {
+            has_slice: bears_slice(depacketizer, packet.payload),
+            first: None,
+        };
+        return framing.with(is_open, false, shown);
+    }
+    framing.with(is_open, true, shown_by(depacketizer, packet.payload))
+}
+
+/// Gives it a packet that is due, passes over one that it refuses, and notes what became of it: `at` is
+/// what is known with it of where access units end, and it has its marker where that is believed.
+/// Without memory all stays as it was.
+fn take_noted<D: RunDepacketizer>(
+    assembler: &mut AccessUnitAssembler<D>,
+    ended: &mut Vec<AccessUnit>,
+    framing: &mut Framing,
+    numbers: &mut NumbersSoFar,
+    counts: &mut Counts,
+    at: Framing,
+    packet: &RtpPacket<'_>,
+    marker: bool,
 ) -> Result<Received, PacketError>
     ensures answer { IsAnswerTo assembler.old.packets.run_limit
         (assembly_at D.state assembler.old ended.old.items) packet.now result }
     ensures after { lacks_memory result ≡ false → assembly_at D.state assembler.new ended.new.items
         ≡ marker_forgotten (assembly_after assembler.old.packets.run_limit assembler.old.unit_limit
         (assembly_at D.state assembler.old ended.old.items) packet.now result) }
-    ensures numbers { lacks_memory result ≡ false → numbers.new
-        ≡ numbers_after assembler.old.packets.expected numbers.old packet.now result }
-    ensures counts { lacks_memory result ≡ false → counts.new
-        ≡ counted_due assembler.old.packets.expected counts.old packet.now result (gives_text_up
-        D.state assembler.old ended.old.items packet.now) }
+    ensures framing { lacks_memory result ≡ false → framing.new
+        ≡ framing_answered framing.old at packet.now result }
+    ensures numbers { lacks_memory result ≡ false → numbers.new ≡ numbers_answered
+        (assembly_at D.state assembler.old ended.old.items) numbers.old at packet.now result }
+    ensures counts { lacks_memory result ≡ false → counts.new ≡ counts_answered
+        (assembly_at D.state assembler.old ended.old.items) counts.old at packet.now marker
+        (gives_text_up D.state assembler.old ended.old.items packet.now) result }
     ensures limit { assembler.new.packets.run_limit ≡ assembler.old.packets.run_limit }
     ensures unit_limit { assembler.new.unit_limit ≡ assembler.old.unit_limit }
     ensures kept { lacks_memory result ≡ true → assembly_at D.state assembler.new ended.new.items
         ≡ assembly_at D.state assembler.old ended.old.items }
+    ensures kept_framing { lacks_memory result ≡ true → framing.new ≡ framing.old }
     ensures kept_numbers { lacks_memory result ≡ true → numbers.new ≡ numbers.old }
     ensures kept_counts { lacks_memory result ≡ true → counts.new ≡ counts.old }
 {
+    let still = begins_still(assembler, at, packet);
     match take_packet(assembler, packet, ended) {
         Ok(received) => {
             assembler.forget_marker();
-            numbers.note(packet, received);
-            counts.note(packet, received, assembler.is_text_given_up);
+            let text = assembler.is_text_given_up;
+            let unbelieved = is_unbelieved(marker, packet);
+            note_received(
+                framing, numbers, counts, at, packet, received, unbelieved, still, text,
+            );
             Ok(received)
         }
         Err(PacketError::OutOfMemory) => Err(PacketError::OutOfMemory),
         Err(error) => {
+            let extra = assembler.packets.depacketizer.extra(false);
+            if bears_no_unit(extra, error, packet.payload) {
+                pass_no_unit(assembler, ended, numbers, counts, packet)?;
+                return Err(error);
+            }
             let missing = missing_with(assembler.pass_over(packet.sequence));
             assembler.forget_marker();
             numbers.skip(missing);
@@ -122,33 +285,63 @@ fn take_noted<D: RunDepacketizer>(
     }
 }
 
-/// Whether numbers are missing right before one that is not late, where a packet was taken.
-fn is_behind_missing<D: RunDepacketizer>(assembler: &AccessUnitAssembler<D>, number: u16) -> bool
+/// Whether a number is the one that is expected, or behind others that are missing.
+#[inline]
+fn is_in_reach<D: RunDepacketizer>(assembler: &AccessUnitAssembler<D>, number: u16) -> bool
     ensures { (ended : List AccessUnit) → result
-        ≡ is_behind_missing (assembly_at D.state assembler.now ended) number }
+        ≡ is_in_reach (assembly_at D.state assembler.now ended) number }
 {
     match assembler.packets.expected {
-        Some(expected) => {
-            number.wrapping_sub(expected) < 0x8000
-                && (assembler.unit.is_gap() || number != expected)
-        }
+        Some(expected) => number.wrapping_sub(expected) < 0x8000,
         None => false,
     }
 }
 
-/// Whether a packet begins an access unit behind numbers that are missing.
-fn begins_behind_missing<D: RunDepacketizer>(
+/// Whether numbers are missing right before one that is not late, where a packet was taken.
+#[inline]
+fn is_behind_missing<D: RunDepacketizer>(assembler: &AccessUnitAssembler<D>, number: u16) -> bool
+    ensures { (ended : List AccessUnit) → result
+        ≡ is_behind_missing (assembly_at D.state assembler.now ended) number }
+{
+    if !is_in_reach(assembler, number) {
+        return false;
+    }
+    assembler.unit.is_gap() || !is_next(assembler.packets.expected, number)
+}
+
+/// Whether the access unit that is open, of a packet's timestamp, ends before it by its units. Where
+/// markers are trusted it isn't looked into.
+#[inline]
+fn ends_by_content<D: RunDepacketizer>(
     assembler: &AccessUnitAssembler<D>,
+    framing: Framing,
+    packet: &RtpPacket<'_>,
+) -> bool
+    ensures { (ended : List AccessUnit) → result ≡ ends_by_content framing
+        (shown_of (assembly_at D.state assembler.now ended) packet.now) }
+{
+    if framing.trusts_markers() || !framing.has_slice {
+        return false;
+    }
+    framing.ends_by_content(shown_by(&assembler.packets.depacketizer, packet.payload))
+}
+
+/// Whether the access unit that is open ends before a packet.
+#[inline]
+fn ends_before<D: RunDepacketizer>(
+    assembler: &AccessUnitAssembler<D>,
+    framing: Framing,
     packet: &RtpPacket<'_>,
 ) -> bool
     ensures { (ended : List AccessUnit) → result
-        ≡ begins_behind_missing (assembly_at D.state assembler.now ended) packet.now }
+        ≡ ends_before (assembly_at D.state assembler.now ended) framing packet.now }
 {
     if packet.payload.is_empty() {
         return false;
     }
     if assembler.unit.is_at(packet.timestamp) {
-        return false;
+        return is_in_reach(assembler, packet.sequence)
+            && ends_by_content(assembler, framing, packet);
     }
     is_behind_missing(assembler, packet.sequence)
 }
@@ -163,40 +356,98 @@ fn missing_before(expected: Option<u16>, number: u16) -> u16
     }
 }
 
-/// Takes a packet that is due as [`take_noted`] does. Where no number is expected its own is, if it
-/// has a payload, so that it is known of its access unit from it on whether something is missing.
-fn take_begun<D: RunDepacketizer>(
+/// Takes a packet that is due as [`take_noted`] does, with its marker where that is believed.
+fn take_seen<D: RunDepacketizer>(
     assembler: &mut AccessUnitAssembler<D>,
     ended: &mut Vec<AccessUnit>,
+    framing: &mut Framing,
     numbers: &mut NumbersSoFar,
     counts: &mut Counts,
     packet: &RtpPacket<'_>,
 ) -> Result<Received, PacketError>
-    ensures answer { IsAnswerTo assembler.old.packets.run_limit
-        (begun_for (assembly_at D.state assembler.old ended.old.items) packet.now) packet.now
-        result }
-    ensures after { lacks_memory result ≡ false → assembly_at D.state assembler.new ended.new.items
-        ≡ marker_forgotten (assembly_after assembler.old.packets.run_limit assembler.old.unit_limit
-        (begun_for (assembly_at D.state assembler.old ended.old.items) packet.now) packet.now
-        result) }
-    ensures numbers { lacks_memory result ≡ false → numbers.new
-        ≡ numbers_after (expected_for assembler.old.packets.expected packet.now) numbers.old
-        packet.now result }
-    ensures counts { lacks_memory result ≡ false → counts.new
-        ≡ counted_due (expected_for assembler.old.packets.expected packet.now) counts.old
-        packet.now result (is_text_given_up assembler.old.packets.run_limit
-        assembler.old.unit_limit (begun_for (assembly_at D.state assembler.old ended.old.items)
-        packet.now) packet.now) }
+    ensures answer { let s = assembly_at D.state assembler.old ended.old.items in
+        let at = framing_of s framing.old numbers.old packet.now in
+        IsAnswerTo assembler.old.packets.run_limit s (believed at packet.now) result }
+    ensures after { let s = assembly_at D.state assembler.old ended.old.items in
+        let at = framing_of s framing.old numbers.old packet.now in
+        lacks_memory result ≡ false → assembly_at D.state assembler.new ended.new.items
+        ≡ marker_forgotten (assembly_after assembler.old.packets.run_limit assembler.old.unit_limit s
+        (believed at packet.now) result) }
+    ensures framing { let s = assembly_at D.state assembler.old ended.old.items in
+        let at = framing_of s framing.old numbers.old packet.now in lacks_memory result ≡ false →
+        framing.new ≡ framing_answered framing.old at (believed at packet.now) result }
+    ensures numbers { let s = assembly_at D.state assembler.old ended.old.items in
+        let at = framing_of s framing.old numbers.old packet.now in lacks_memory result ≡ false →
+        numbers.new ≡ numbers_answered s numbers.old at (believed at packet.now) result }
+    ensures counts { let s = assembly_at D.state assembler.old ended.old.items in
+        let at = framing_of s framing.old numbers.old packet.now in lacks_memory result ≡ false →
+        counts.new ≡ counts_answered s counts.old at (believed at packet.now) packet.now.1.marker
+        (is_text_given_up assembler.old.packets.run_limit assembler.old.unit_limit s
+        (believed at packet.now)) result }
     ensures limit { assembler.new.packets.run_limit ≡ assembler.old.packets.run_limit }
     ensures unit_limit { assembler.new.unit_limit ≡ assembler.old.unit_limit }
     ensures kept { lacks_memory result ≡ true → assembly_at D.state assembler.new ended.new.items
         ≡ assembly_at D.state assembler.old ended.old.items }
+    ensures kept_framing { lacks_memory result ≡ true → framing.new ≡ framing.old }
+    ensures kept_numbers { lacks_memory result ≡ true → numbers.new ≡ numbers.old }
+    ensures kept_counts { lacks_memory result ≡ true → counts.new ≡ counts.old }
+{
+    let at = framing_of(assembler, *framing, numbers, packet);
+    let taken = believed(at, packet);
+    take_noted(
+        assembler,
+        ended,
+        framing,
+        numbers,
+        counts,
+        at,
+        &taken,
+        packet.marker,
+    )
+}
+
+/// Takes a packet that is due as [`take_seen`] does. Where no number is expected its own is, if it
+/// has a payload, so that it is known of its access unit from it on whether something is missing.
+fn take_begun<D: RunDepacketizer>(
+    assembler: &mut AccessUnitAssembler<D>,
+    ended: &mut Vec<AccessUnit>,
+    framing: &mut Framing,
+    numbers: &mut NumbersSoFar,
+    counts: &mut Counts,
+    packet: &RtpPacket<'_>,
+) -> Result<Received, PacketError>
+    ensures answer { let s = begun_for (assembly_at D.state assembler.old ended.old.items) packet.now in
+        let at = framing_of s framing.old numbers.old packet.now in
+        IsAnswerTo assembler.old.packets.run_limit s (believed at packet.now) result }
+    ensures after { let s = begun_for (assembly_at D.state assembler.old ended.old.items) packet.now in
+        let at = framing_of s framing.old numbers.old packet.now in
+        lacks_memory result ≡ false → assembly_at D.state assembler.new ended.new.items
+        ≡ marker_forgotten (assembly_after assembler.old.packets.run_limit assembler.old.unit_limit s
+        (believed at packet.now) result) }
+    ensures framing { let s = begun_for (assembly_at D.state assembler.old ended.old.items)
+        packet.now in
+        let at = framing_of s framing.old numbers.old packet.now in lacks_memory result ≡ false →
+        framing.new ≡ framing_answered framing.old at (believed at packet.now) result }
+    ensures numbers { let s = begun_for (assembly_at D.state assembler.old ended.old.items)
+        packet.now in
+        let at = framing_of s framing.old numbers.old packet.now in lacks_memory result ≡ false →
+        numbers.new ≡ numbers_answered s numbers.old at (believed at packet.now) result }
+    ensures counts { let s = begun_for (assembly_at D.state assembler.old ended.old.items) packet.now in
+        let at = framing_of s framing.old numbers.old packet.now in lacks_memory result ≡ false →
+        counts.new ≡ counts_answered s counts.old at (believed at packet.now) packet.now.1.marker
+        (is_text_given_up assembler.old.packets.run_limit assembler.old.unit_limit s
+        (believed at packet.now)) result }
+    ensures limit { assembler.new.packets.run_limit ≡ assembler.old.packets.run_limit }
+    ensures unit_limit { assembler.new.unit_limit ≡ assembler.old.unit_limit }
+    ensures kept { lacks_memory result ≡ true → assembly_at D.state assembler.new ended.new.items
+        ≡ assembly_at D.state assembler.old ended.old.items }
+    ensures kept_framing { lacks_memory result ≡ true → framing.new ≡ framing.old }
     ensures kept_numbers { lacks_memory result ≡ true → numbers.new ≡ numbers.old }
     ensures kept_counts { lacks_memory result ≡ true → counts.new ≡ counts.old }
 {
     let expected = assembler.packets.expected;
     assembler.packets.expected = expected_for(expected, packet);
-    let received = take_noted(assembler, ended, numbers, counts, packet);
+    let received = take_seen(assembler, ended, framing, numbers, counts, packet);
     if is_want_of_memory(&received) {
         assembler.packets.expected = expected;
     }
@@ -233,7 +484,7 @@ impl<D: RunDepacketizer> Receives for AccessUnitReceiver<D> {
     ghost use Rattle.h26x_access_units.specs.Reception.{reception};
 
     ghost reception = { λ r. reception r.waiting (option_map numbered_packet r.stray) r.is_anew
-        (assembly_at D.state r.assembler r.ended.items) r.numbers r.decoder r.counts
+        (assembly_at D.state r.assembler r.ended.items) r.framing r.numbers r.decoder r.counts
         r.assembler.packets.run_limit r.assembler.unit_limit };
 
     fn counts(&self) -> Counts {
@@ -258,6 +509,7 @@ impl<D: RunDepacketizer> AccessUnitReceiver<D> {
             alloc,
             assembler: AccessUnitAssembler::new(alloc, packets, config.unit_limit),
             ended: Vec::new(alloc),
+            framing: Framing::fresh(),
             numbers: NumbersSoFar::none(),
             decoder: DecoderState::fresh(),
             counts: Counts::none(),
@@ -283,7 +535,7 @@ impl<D: RunDepacketizer> AccessUnitReceiver<D> {
         ensures bounded { let r = ⟦<Self as Receives>⟧.reception in
             StaysWithinLimits (length packet.now.1.payload) (r self.old) (r self.new) }
     {
-        if self.takes_at_once(packet.sequence) {
+        if self.takes_at_once(packet) {
             self.take_at_once(packet)?;
             return Ok(Pushed::Held);
         }
@@ -311,15 +563,19 @@ impl<D: RunDepacketizer> AccessUnitReceiver<D> {
         Ok(pushed)
     }
 
-    /// Whether a packet with this number is taken at once.
-    fn takes_at_once(&self, number: u16) -> bool
+    /// Whether a packet is taken at once.
+    #[inline(always)]
+    fn takes_at_once(&self, packet: &RtpPacket<'_>) -> bool
         ensures { let r = ⟦<Self as Receives>⟧.reception in
-            result ≡ is_taken_at_once (r self.now) number }
+            result ≡ is_taken_at_once (r self.now) packet.now }
     {
-        if !self.waiting.goes_straight(number) {
+        if !self.waiting.goes_straight(packet.sequence) {
             return false;
         }
-        if is_behind_missing(&self.assembler, number) {
+        if is_behind_missing(&self.assembler, packet.sequence) {
+            return false;
+        }
+        if ends_before(&self.assembler, self.framing, packet) {
             return false;
         }
         let none_ended = !self.has_ended();
@@ -329,16 +585,20 @@ impl<D: RunDepacketizer> AccessUnitReceiver<D> {
     /// Takes a packet at once, which waits no more than one that is due.
     fn take_at_once(&mut self, packet: &RtpPacket<'_>) -> Result<(), PacketError>
         requires { let r = ⟦<Self as Receives>⟧.reception in
-            is_taken_at_once (r self.old) packet.now.0 ≡ true }
+            is_taken_at_once (r self.old) packet.now ≡ true }
+        ensures held { let r = ⟦<Self as Receives>⟧.reception in
+            reception_answer (r self.old) packet.now ≡ Pushed.Held }
         ensures taken { let r = ⟦<Self as Receives>⟧.reception in
             OnOk result (IsTakenAsDue (r self.old) packet.now (r self.new)) }
         ensures memory { OnErr result (result ≡ Err PacketError.OutOfMemory) }
         ensures kept { let r = ⟦<Self as Receives>⟧.reception in
             OnErr result (r self.new ≡ r self.old) }
     {
+        let sequence = packet.sequence;
         let received = take_begun(
             &mut self.assembler,
             &mut self.ended,
+            &mut self.framing,
             &mut self.numbers,
             &mut self.counts,
             packet,
@@ -346,14 +606,14 @@ impl<D: RunDepacketizer> AccessUnitReceiver<D> {
         if is_want_of_memory(&received) {
             return Err(PacketError::OutOfMemory);
         }
-        self.waiting.pass(packet.sequence);
+        self.waiting.pass(sequence);
         Ok(())
     }
 
     /// So of one that has memory of its own, which is kept for another one.
     fn take_held_at_once(&mut self, packet: HeldPacket) -> Result<Pushed, NotPushed>
         requires { let r = ⟦<Self as Receives>⟧.reception in
-            is_taken_at_once (r self.old) packet.sequence ≡ true }
+            is_taken_at_once (r self.old) (numbered_packet packet) ≡ true }
         ensures answer { IfOk result (λ answer. answer ≡ Pushed.Held) }
         ensures taken { let r = ⟦<Self as Receives>⟧.reception in
             OnOk result (IsTakenAsDue (r self.old) (numbered_packet packet) (r self.new)) }
@@ -443,7 +703,7 @@ impl<D: RunDepacketizer> AccessUnitReceiver<D> {
         ensures bounded { let r = ⟦<Self as Receives>⟧.reception in
             StaysWithinLimits (length packet.payload.items) (r self.old) (r self.new) }
     {
-        if self.takes_at_once(packet.sequence) {
+        if self.takes_at_once(&packet.packet()) {
             return self.take_held_at_once(packet);
         }
         if self.waiting.is_far(packet.sequence) {
@@ -486,9 +746,9 @@ impl<D: RunDepacketizer> AccessUnitReceiver<D> {
         self.push(now, &packet)
     }
 
-    /// Where the packet that is due begins an access unit behind numbers that are missing, ends the one
-    /// that is open; the answer is whether it does. Without memory all stays as it was.
-    fn end_behind_missing(&mut self, now: u32) -> Result<bool, PacketError>
+    /// Ends the access unit that is open where it ends before the packet that is due; the answer is
+    /// whether it does. Without memory all stays as it was.
+    fn end_before(&mut self, now: u32) -> Result<bool, PacketError>
         ensures ended { let r = ⟦<Self as Receives>⟧.reception in
             IfOk result (λ ended. IsEndedOrFollows now (r self.old) ended (r self.new)) }
         ensures memory { OnErr result (result ≡ Err PacketError.OutOfMemory) }
@@ -499,13 +759,18 @@ impl<D: RunDepacketizer> AccessUnitReceiver<D> {
             Some(held) => held.packet(),
             None => return Ok(false),
         };
-        if !begins_behind_missing(&self.assembler, &packet) {
+        if !ends_before(&self.assembler, self.framing, &packet) {
             return Ok(false);
         }
-        let missing = missing_before(self.assembler.packets.expected, packet.sequence);
-        self.assembler.finish(&mut self.ended)?;
-        self.numbers.miss(u32::from(missing));
-        self.counts.drop(usize::from(missing));
+        if is_behind_missing(&self.assembler, packet.sequence) {
+            let missing = missing_before(self.assembler.packets.expected, packet.sequence);
+            self.assembler.finish(&mut self.ended)?;
+            self.numbers.miss(u32::from(missing));
+            self.counts.drop(usize::from(missing));
+        } else {
+            self.assembler.end(&mut self.ended)?;
+            self.numbers.close();
+        }
         Ok(true)
     }
 
@@ -525,6 +790,7 @@ impl<D: RunDepacketizer> AccessUnitReceiver<D> {
         let received = take_begun(
             &mut self.assembler,
             &mut self.ended,
+            &mut self.framing,
             &mut self.numbers,
             &mut self.counts,
             &packet,
@@ -546,14 +812,15 @@ impl<D: RunDepacketizer> AccessUnitReceiver<D> {
     {
         if self.ended.is_empty() && self.is_anew {
             self.assembler.finish(&mut self.ended)?;
+            self.framing = Framing::fresh();
             self.numbers.finish();
             self.is_anew = false;
         }
         Ok(())
     }
 
-    /// Takes the packet that is due, if one is; where that begins an access unit behind numbers that
-    /// are missing the one that is open ends first, and if there is one the packet is due still.
+    /// Takes the packet that is due, if one is; where the access unit that is open ends before it
+    /// that ends first, and if there is one the packet is due still.
     fn step(&mut self, now: u32) -> Result<bool, PacketError>
         requires { let r = ⟦<Self as Receives>⟧.reception in (r self.old).assembler.ended ≡ [] }
         ensures step { let r = ⟦<Self as Receives>⟧.reception in
@@ -562,7 +829,7 @@ impl<D: RunDepacketizer> AccessUnitReceiver<D> {
         ensures kept { let r = ⟦<Self as Receives>⟧.reception in
             OnErr result (IsStepInPart now (r self.old) (r self.new)) }
     {
-        if !self.end_behind_missing(now)? {
+        if !self.end_before(now)? {
             return self.take_due(now);
         }
         if self.has_ended() {
@@ -579,8 +846,53 @@ impl<D: RunDepacketizer> AccessUnitReceiver<D> {
             OnOk result (NoneIsDueUnlessEnded now (r self.new)) }
         ensures memory { OnErr result (result ≡ Err PacketError.OutOfMemory) }
     {
-        while !self.has_ended() && self.step(now)? {}
+        while self.drop_bare() && self.step(now)? {}
         Ok(())
+    }
+
+    /// Drops the access units that ended first and have no bytes; the answer is whether none is left.
+    #[inline]
+    fn drop_bare(&mut self) -> bool
+        ensures after { let r = ⟦<Self as Receives>⟧.reception in
+            r self.new ≡ without_bare (r self.old) }
+        ensures none { let r = ⟦<Self as Receives>⟧.reception in
+            result ≡ has_no_unit (r self.new).assembler.ended }
+    {
+        while self.has_bare() {
+            self.pass_bare();
+        }
+        self.ended.is_empty()
+    }
+
+    /// Whether the first access unit that ended has no bytes.
+    #[inline]
+    fn has_bare(&self) -> bool
+        ensures { let r = ⟦<Self as Receives>⟧.reception in
+            result ≡ has_bare (r self.now).assembler.ended }
+    {
+        match self.ended.first() {
+            Some(unit) => unit.bytes.is_empty(),
+            None => false,
+        }
+    }
+
+    /// Passes over the first access unit that ended, which has no bytes: what is missing of it is told
+    /// with the next one.
+    #[cold]
+    #[inline(never)]
+    fn pass_bare(&mut self)
+        requires { let r = ⟦<Self as Receives>⟧.reception in
+            has_bare (r self.old).assembler.ended ≡ true }
+        ensures { let r = ⟦<Self as Receives>⟧.reception in
+            r self.new ≡ first_passed (r self.old) }
+    {
+        let unit = self.ended.remove(0);
+        let numbers = self.numbers.give();
+        let is_avc = self.assembler.packets.depacketizer.is_avc();
+        let has_sets = self.waiting.config().has_sets;
+        unit::pass(&mut self.decoder, has_sets, is_avc, &unit, numbers);
+        self.numbers.carry(numbers.missing);
+        self.assembler.give_back(unit);
     }
 
     /// Whether an access unit has ended and wasn't given out.
@@ -601,6 +913,7 @@ impl<D: RunDepacketizer> AccessUnitReceiver<D> {
     {
         if self.ended.is_empty() && self.waiting.is_over() {
             self.assembler.finish(&mut self.ended)?;
+            self.framing = Framing::fresh();
             self.numbers.finish();
             self.waiting.restart();
             self.stray = None;
@@ -667,9 +980,11 @@ impl<D: RunDepacketizer> AccessUnitReceiver<D> {
         ensures bounded { let r = ⟦<Self as Receives>⟧.reception in
             StaysWithinLimits 0 (r self.old) (r self.new) }
     {
+        let _ = self.drop_bare();
         self.end_if_anew()?;
         self.drain(now)?;
         self.end_if_over()?;
+        let _ = self.drop_bare();
         Ok(self.give())
     }
 
@@ -711,6 +1026,7 @@ impl<D: RunDepacketizer> AccessUnitReceiver<D> {
         self.is_anew = false;
         self.assembler.restart();
         self.ended.clear();
+        self.framing = Framing::fresh();
         self.numbers = NumbersSoFar::none();
         self.decoder = DecoderState::fresh();
     }

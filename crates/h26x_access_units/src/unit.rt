@@ -44,6 +44,21 @@ pub struct ReceivedAccessUnit {
     pub missing: u32,
 }
 
+/// What is known of a decoder with an access unit that isn't given out, since it has no bytes.
+pub(crate) fn pass(
+    decoder: &mut DecoderState,
+    has_sets: bool,
+    is_avc: bool,
+    unit: &AccessUnit,
+    numbers: AccessUnitNumbers,
+)
+    ensures { decoder.new
+        ≡ decoder_with decoder.old has_sets is_avc (access_unit_value unit.now) numbers }
+{
+    let content = content_of(is_avc, unit.extra, &unit.bytes);
+    *decoder = decoder.after(has_sets, unit.is_whole, unit.extra, numbers, content);
+}
+
 impl ReceivedAccessUnit {
     /// An access unit with its numbers, by what is known of a decoder, and then with it.
     #[inline]

@@ -1,10 +1,10 @@
 -- What an answer for the next access unit says, and what stands where nothing is due.
-use Rattle.std.proofs.Common.{◌≡◌, ◌∙◌, ◌⊎◌, refl, ap, sym, subst, ℕ, ◌<◌, ◌≤◌, Bool, true, false, if◌then◌else◌, List, ◌++◌, drop, length, Option, Some, None, ⊎_elim, arith}
+use Rattle.std.proofs.Common.{[], ◌≡◌, ◌∙◌, ◌⊎◌, refl, ap, sym, subst, ℕ, ◌<◌, ◌≤◌, Bool, true, false, if◌then◌else◌, List, ◌++◌, drop, length, Option, Some, None, ⊎_elim, arith}
 use Rattle.std.specs.Prelude.{◌&&◌, nat_le, MatchOption}
 use Rattle.std.proofs.lemmas.Bool.Decides.{nat_tests}
 use Rattle.h26x_access_units.specs.JitterBuffer.{due_packet}
 use Rattle.h26x_access_units.specs.ReceivedAccessUnit.{ReceivedAccessUnitValue}
-use Rattle.h26x_access_units.specs.Reception.{Reception, has_no_unit, IsDrained, none, more, behind, ended_if_anew, IsNext}
+use Rattle.h26x_access_units.specs.Reception.{Reception, has_no_unit, without_bare, without_bare_of, IsDrained, none, bare, more, behind, ended_if_anew, IsDrainedInPart, IsNext}
 use Rattle.h26x_handles.specs.UnitsState.{UnitsState, units_state, unit_told, unit_without_room, buffer_with_unit, next_answer, IsNextGiven}
 use Rattle.h26x_handles.specs.declared.access_units.NextAnswer.{NextAnswer}
 use Rattle.h26x_handles.specs.declared.access_units.NextAnswer.TheVariants as answers
@@ -69,26 +69,29 @@ either_none true x y first second = first
 either_none false x y first second = second
 
 -- where no packet is due none was taken
-none_taken : (now : ℕ) (s t : Reception) → IsDrained now s t → due_packet now s.waiting ≡ None → t ≡ s
-none_taken now s t none idle = refl
-none_taken now s u (more {t} before empty taken) idle =
+none_taken : (now : ℕ) (s t : Reception) → IsDrained now s t → s.assembler.ended ≡ [] → due_packet now s.waiting ≡ None → t ≡ s
+none_taken now s t none left idle = refl
+none_taken now s u (bare {t} before) left idle = ap without_bare (none_taken now s t before left idle) ∙ ap (without_bare_of s) left
+none_taken now s u (more {t} before empty taken) left idle =
     absurd (let due : due_packet now t.waiting ≡ Some taken.packet = taken.due in
-    let same : due_packet now t.waiting ≡ None = ap (λ (r : Reception). due_packet now r.waiting) (none_taken now s t before idle) ∙ idle in cc)
-none_taken now s u (behind {t} before empty ended) idle =
+    let same : due_packet now t.waiting ≡ None = ap (λ (r : Reception). due_packet now r.waiting) (none_taken now s t before left idle) ∙ idle in cc)
+none_taken now s u (behind {t} before empty ended) left idle =
     absurd (let due : due_packet now t.waiting ≡ Some ended.packet = ended.due in
-    let same : due_packet now t.waiting ≡ None = ap (λ (r : Reception). due_packet now r.waiting) (none_taken now s t before idle) ∙ idle in cc)
+    let same : due_packet now t.waiting ≡ None = ap (λ (r : Reception). due_packet now r.waiting) (none_taken now s t before left idle) ∙ idle in cc)
 
 -- a stream that hasn't begun anew
 not_both : (b c : Bool) (r s : Reception) → c ≡ false → (if b && c then r else s) ≡ s
 not_both true c r s is = ap (λ (x : Bool). if x then r else s) is
 not_both false c r s is = refl
 
-pub not_changed : (now : ℕ) (it new : UnitsState) → new ≡ units_state it.codec new.reception it.left → (new.reception ≡ it.reception) ⊎ IsDrained now (ended_if_anew it.reception) new.reception →
-    it.reception.is_anew ≡ false → due_packet now it.reception.waiting ≡ None → new ≡ it
-not_changed now it new stands taken begun idle =
-    let same : ended_if_anew it.reception ≡ it.reception = not_both (has_no_unit it.reception.assembler.ended) it.reception.is_anew _ it.reception begun in
-    let idle_too : due_packet now (ended_if_anew it.reception).waiting ≡ None = ap (λ (r : Reception). due_packet now r.waiting) same ∙ idle in
-    let stays : new.reception ≡ it.reception = ⊎_elim (λ e. e) (λ drained. none_taken now (ended_if_anew it.reception) new.reception drained idle_too ∙ same) taken in
+pub not_changed : (now : ℕ) (it new : UnitsState) → new ≡ units_state it.codec new.reception it.left → IsDrainedInPart now it.reception new.reception →
+    it.reception.assembler.ended ≡ [] → it.reception.is_anew ≡ false → due_packet now it.reception.waiting ≡ None → new ≡ it
+not_changed now it new stands taken left begun idle =
+    let whole : without_bare it.reception ≡ it.reception = ap (without_bare_of it.reception) left in
+    let same : ended_if_anew (without_bare it.reception) ≡ it.reception = ap ended_if_anew whole ∙ not_both (has_no_unit it.reception.assembler.ended) it.reception.is_anew _ it.reception begun in
+    let left_too = ap (λ (r : Reception). r.assembler.ended) same ∙ left in
+    let idle_too : due_packet now (ended_if_anew (without_bare it.reception)).waiting ≡ None = ap (λ (r : Reception). due_packet now r.waiting) same ∙ idle in
+    let stays : new.reception ≡ it.reception = ⊎_elim (λ e. e ∙ whole) (λ drained. none_taken now (ended_if_anew (without_bare it.reception)) new.reception drained left_too idle_too ∙ same) taken in
     stands ∙ ap (λ (r : Reception). units_state it.codec r it.left) stays
 
 -- where no access unit waits for room, the next one is the receiver's

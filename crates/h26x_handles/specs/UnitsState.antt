@@ -8,7 +8,7 @@ use Rattle.h26x_access_units.specs.Arrival.{deadline_of}
 use Rattle.h26x_access_units.specs.JitterBuffer.{may_tell_first, longest_wait, awaited}
 use Rattle.h26x_access_units.specs.Missing.{missing_numbers}
 use Rattle.h26x_access_units.specs.ReceivedAccessUnit.{ReceivedAccessUnitValue}
-use Rattle.h26x_access_units.specs.Reception.{Reception, fresh_reception, begun_reception, reception_answer, restarted, ended_if_anew, IsPushed, IsDrained, IsNext}
+use Rattle.h26x_access_units.specs.Reception.{Reception, fresh_reception, begun_reception, reception_answer, restarted, IsPushed, IsNext, IsDrainedInPart}
 use Rattle.h26x_codec.specs.Codec.{codec_format}
 use Rattle.h26x_codec.specs.declared.codec.Codec.{Codec}
 use Rattle.h26x_reorder.specs.Rtp.{RtpBody}
@@ -118,13 +118,13 @@ pub record IsUnitGiven (now : ℕ) (it new : UnitsState) (to new_to : List ℕ)
   pub put : new_to ≡ buffer_with_unit unit to
   pub answered : answer ≡ next_answer unit to
 
--- Without memory nothing changed, or packets were taken that were due, none of them lost; and no access
--- unit waits for room, since that one wants no memory.
+-- Without memory nothing changed but that access units without bytes were passed over, or packets were
+-- taken that were due, none of them lost; and no access unit waits for room, since that one wants no
+-- memory.
 pub record IsOutOfMemory (now : ℕ) (it new : UnitsState) : Type 0 where
   pub none : it.left ≡ None
   pub stands : new ≡ units_with_reception new.reception it
-  pub taken : (new.reception ≡ it.reception)
-      ⊎ IsDrained now (ended_if_anew it.reception) new.reception
+  pub taken : IsDrainedInPart now it.reception new.reception
 
 -- the code of an answer, and what is told of the access unit, if one is
 abbrev pub next_numbers : NextAnswer → UnitTold → ℕ × UnitTold

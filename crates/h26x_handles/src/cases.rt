@@ -8,7 +8,7 @@ ghost use Rattle.h26x_codec.specs.declared.codec.Codec.TheVariants as codecs;
 ghost use Rattle.h26x_access_units.specs.declared.config.AccessUnitConfig.{AccessUnitConfig};
 ghost use Rattle.h26x_access_units.specs.JitterBuffer.{due_packet};
 ghost use Rattle.h26x_access_units.specs.ReceivedAccessUnit.{ReceivedAccessUnitValue};
-ghost use Rattle.h26x_access_units.specs.Reception.{Reception, IsNext, after_reception, ended_if_anew};
+ghost use Rattle.h26x_access_units.specs.Reception.{Reception, IsNext, after_reception, without_bare, ended_if_anew};
 ghost use Rattle.h26x_access_units.specs.declared.pushed.Pushed.TheVariants as pushes;
 ghost use Rattle.h26x_reorder.specs.Rtp.{RtpBody};
 ghost use Rattle.h26x_codes.specs.Codes.{ok, no_room, out_of_memory, out_of_range, unknown_codec, not_of_this_codec};
@@ -109,18 +109,21 @@ pub fn units_given()
         IsUnitGiven now it it (9 ∷ []) (9 ∷ []) answers.NothingYet }
 {}
 
-/// Want of memory: no access unit waits for room, and where no packet is due and the stream hasn't
-/// begun anew nothing changed. Where it has, the access unit that was open may have ended.
+/// Want of memory: no access unit waits for room, and where none has ended, no packet is due and the
+/// stream hasn't begun anew nothing changed. Where it has, the access unit that was open may have
+/// ended.
 pub fn units_without_memory()
     ensures none { (now : ℕ) (it new : UnitsState) → IsOutOfMemory now it new → it.left ≡ None }
     ensures stays { (now : ℕ) (it new : UnitsState) → IsOutOfMemory now it new →
         new ≡ units_state it.codec new.reception None }
     ensures not_due { (now : ℕ) (it new : UnitsState) → IsOutOfMemory now it new →
-        it.reception.is_anew ≡ false → due_packet now it.reception.waiting ≡ None → new ≡ it }
+        it.reception.assembler.ended ≡ [] → it.reception.is_anew ≡ false →
+        due_packet now it.reception.waiting ≡ None → new ≡ it }
     ensures kept { (now : ℕ) (codec : Codec) (r : Reception) →
-        IsOutOfMemory now (units_state codec r None) (units_state codec r None) }
+        IsOutOfMemory now (units_state codec r None) (units_state codec (without_bare r) None) }
     ensures anew { (now : ℕ) (codec : Codec) (r : Reception) →
-        IsOutOfMemory now (units_state codec r None) (units_state codec (ended_if_anew r) None) }
+        IsOutOfMemory now (units_state codec r None)
+        (units_state codec (ended_if_anew (without_bare r)) None) }
 {}
 
 /// A packet that is held: whether it waits or was taken at once, the same is given out next.

@@ -8,6 +8,7 @@ mod config;
 mod content;
 mod counts;
 mod decoder;
+mod framing;
 mod jitter;
 mod numbers;
 mod pushed;

@@ -25,6 +25,10 @@ pub struct Counts {
     pub refused: u64,
     /// Numbers that came and bear nothing.
     pub skipped: u64,
+    /// Packets that were refused and bear nothing to be written: of a type that carries no unit of
+    /// the stream (a STAP-B, an FU-B, a PACSI), or an end of sequence of two bytes. Nothing is lost
+    /// by them.
+    pub no_unit: u64,
     /// How often the stream began anew.
     pub anew: u64,
     /// Access units that were given out.
@@ -35,6 +39,11 @@ pub struct Counts {
     pub units_given_up: u64,
     /// Texts of access units that were given up, since they were longer than the limit.
     pub texts_given_up: u64,
+    /// Access units that began, by their units, at the timestamp of the one before.
+    pub still: u64,
+    /// Markers of packets that were taken that weren't believed: no slice of the access unit had come,
+    /// or the sender marks each slice.
+    pub unbelieved: u64,
 }
 
 /// How many open NAL units were given up.
@@ -56,11 +65,14 @@ impl Counts {
             stray: 0,
             refused: 0,
             skipped: 0,
+            no_unit: 0,
             anew: 0,
             units: 0,
             whole: 0,
             units_given_up: 0,
             texts_given_up: 0,
+            still: 0,
+            unbelieved: 0,
         }
     }
 
@@ -129,6 +141,26 @@ impl Counts {
         } else {
             self.answer(received, text);
         }
+    }
+
+    /// Counts a packet that is refused and bears nothing to be written, by what became of its number.
+    pub(crate) fn pass(&mut self, received: Received) {
+        match received {
+            Received::Late(_) => self.late = self.late.saturating_add(1),
+            _ => {
+                let missing = u64::from(missing_told(received));
+                self.no_unit = self.no_unit.saturating_add(1);
+                self.lost = self.lost.saturating_add(missing);
+            }
+        }
+    }
+
+    /// Counts whether an access unit began at the timestamp of the one before, and whether a marker
+    /// isn't believed.
+    #[inline]
+    pub(crate) fn frame(&mut self, still: bool, unbelieved: bool) {
+        self.still = self.still.saturating_add(u64::from(still));
+        self.unbelieved = self.unbelieved.saturating_add(u64::from(unbelieved));
     }
 
     /// Counts an access unit that is given out.

@@ -46,6 +46,9 @@ pub(crate) struct NumbersSoFar {
     pub has_begun: bool,
     /// How many are missing since the last packet, before numbers that were skipped.
     pub skipped_gap: u32,
+    /// How many were missing of access units that weren't given out, to be told with the next one that
+    /// begins.
+    pub carried: u32,
     /// Those of the access unit that another timestamp ended, until it is given out.
     pub ended: Option<AccessUnitNumbers>,
     /// Those of the access unit that the marker ended, until it is given out.
@@ -69,6 +72,15 @@ pub(crate) fn missing_told(received: Received) -> u16 {
     }
 }
 
+/// Whether it is this timestamp.
+#[inline]
+pub(crate) fn is_timestamp(marked: Option<u32>, timestamp: u32) -> bool {
+    match marked {
+        Some(marked) => marked == timestamp,
+        None => false,
+    }
+}
+
 impl NumbersSoFar {
     /// Before any packet.
     pub(crate) fn none() -> Self {
@@ -77,6 +89,7 @@ impl NumbersSoFar {
             marked: None,
             has_begun: false,
             skipped_gap: 0,
+            carried: 0,
             ended: None,
             ended_by_marker: None,
         }
@@ -97,10 +110,11 @@ impl NumbersSoFar {
                     timestamp: packet.timestamp,
                     first: packet.sequence,
                     last: packet.sequence,
-                    missing,
+                    missing: missing.saturating_add(self.carried),
                     continues: self.marked == Some(packet.timestamp),
                     follows: self.has_begun && missing == 0,
                 });
+                self.carried = 0;
             }
         }
     }
@@ -144,6 +158,35 @@ impl NumbersSoFar {
         self.skip(missing);
     }
 
+    /// The access unit that is open ended by itself, as by a marker.
+    pub(crate) fn close(&mut self) {
+        self.marked = match self.unit {
+            Some(unit) => Some(unit.timestamp),
+            None => None,
+        };
+        self.ended = self.unit;
+        self.unit = None;
+    }
+
+    /// Where an access unit begins at the timestamp of the one before, that it doesn't go on with that.
+    #[inline]
+    pub(crate) fn stand(&mut self, stands_still: bool) {
+        if stands_still {
+            self.marked = None;
+        }
+    }
+
+    /// As many more are missing before the access unit that is given out next.
+    pub(crate) fn carry(&mut self, missing: u32) {
+        if let Some(ended) = &mut self.ended_by_marker {
+            ended.missing = ended.missing.saturating_add(missing);
+        } else if let Some(unit) = &mut self.unit {
+            unit.missing = unit.missing.saturating_add(missing);
+        } else {
+            self.carried = self.carried.saturating_add(missing);
+        }
+    }
+
     /// The number of the first packet is told.
     pub(crate) fn begin(&mut self) {
         self.has_begun = true;
@@ -156,6 +199,7 @@ impl NumbersSoFar {
             marked: None,
             has_begun: false,
             skipped_gap: 0,
+            carried: 0,
             ended: self.unit,
             ended_by_marker: None,
         };

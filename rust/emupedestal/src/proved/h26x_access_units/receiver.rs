@@ -5,12 +5,17 @@
 use crate::proved::h26x_access_units::config::AccessUnitConfig;
 use crate::proved::h26x_access_units::counts::Counts;
 use crate::proved::h26x_access_units::decoder::DecoderState;
+use crate::proved::h26x_access_units::framing::{
+    Framing, Shown, bears_no_unit, bears_slice, shown_by,
+};
 use crate::proved::h26x_access_units::jitter::JitterBuffer;
-use crate::proved::h26x_access_units::numbers::{NumbersSoFar, missing_with};
+use crate::proved::h26x_access_units::numbers::{
+    NumbersSoFar, is_timestamp, missing_told, missing_with,
+};
 use crate::proved::h26x_access_units::pushed::{NotPushed, NotPushedReason, Pushed};
-use crate::proved::h26x_access_units::unit::ReceivedAccessUnit;
+use crate::proved::h26x_access_units::unit::{self, ReceivedAccessUnit};
 use crate::proved::h26x_assembler::{AccessUnit, AccessUnitAssembler};
-use crate::proved::h26x_core::PacketError;
+use crate::proved::h26x_core::{PacketError, is_next};
 use crate::proved::h26x_depacketizer::RunDepacketizer;
 use crate::proved::h26x_receiver::{Received, SequencedDepacketizer};
 use crate::proved::h26x_reorder::{HeldPacket, RtpPacket};
@@ -25,6 +30,7 @@ pub struct AccessUnitReceiver<D: RunDepacketizer> {
     is_anew: bool,
     assembler: AccessUnitAssembler<D>,
     ended: Vec<AccessUnit>,
+    framing: Framing,
     numbers: NumbersSoFar,
     decoder: DecoderState,
     counts: Counts,
@@ -48,24 +54,145 @@ fn take_packet<D: RunDepacketizer>(
     }
 }
 
-/// Gives it a packet that is due, passes over one that it refuses, and notes what became of it. Without
-/// memory all stays as it was.
-fn take_noted<D: RunDepacketizer>(
+/// Passes over a number whose packet is refused and bears nothing to be written. Its marker ends the
+/// access unit that is open. Without memory all stays as it was.
+#[cold]
+#[inline(never)]
+fn pass_no_unit<D: RunDepacketizer>(
     assembler: &mut AccessUnitAssembler<D>,
     ended: &mut Vec<AccessUnit>,
     numbers: &mut NumbersSoFar,
     counts: &mut Counts,
     packet: &RtpPacket<'_>,
+) -> Result<(), PacketError> {
+    let is_next = is_next(assembler.packets.expected, packet.sequence);
+    if packet.marker && assembler.unit.is_at(packet.timestamp) && is_next {
+        assembler.end(ended)?;
+        numbers.close();
+    }
+    let received = assembler.skip(packet.sequence);
+    assembler.forget_marker();
+    numbers.skip(u32::from(missing_told(received)));
+    counts.pass(received);
+    Ok(())
+}
+
+/// Whether a packet was taken, by what was answered: it has a payload and isn't late.
+#[inline]
+fn is_one_taken(packet: &RtpPacket<'_>, received: Received) -> bool {
+    !packet.payload.is_empty() && received.is_taken()
+}
+
+/// Whether an access unit begins by its units at the timestamp of the one before.
+#[inline]
+fn begins_still<D: RunDepacketizer>(
+    assembler: &AccessUnitAssembler<D>,
+    at: Framing,
+    packet: &RtpPacket<'_>,
+) -> bool {
+    !assembler.unit.is_at(packet.timestamp) && at.stands_still
+}
+
+/// Whether a marker was set that isn't believed.
+#[inline]
+fn is_unbelieved(marker: bool, packet: &RtpPacket<'_>) -> bool {
+    marker && !packet.marker
+}
+
+/// A packet with its marker where that is believed.
+#[inline]
+fn believed<'a>(at: Framing, packet: &RtpPacket<'a>) -> RtpPacket<'a> {
+    RtpPacket {
+        sequence: packet.sequence,
+        timestamp: packet.timestamp,
+        marker: at.believes(packet.marker),
+        payload: packet.payload,
+    }
+}
+
+/// Notes of a packet that is due and isn't refused what became of it: `at` is what is known with it of
+/// where access units end.
+#[inline]
+fn note_received(
+    framing: &mut Framing,
+    numbers: &mut NumbersSoFar,
+    counts: &mut Counts,
+    at: Framing,
+    packet: &RtpPacket<'_>,
+    received: Received,
+    unbelieved: bool,
+    still: bool,
+    text: bool,
+) {
+    if !is_one_taken(packet, received) {
+        numbers.note(packet, received);
+        counts.note(packet, received, text);
+        return;
+    }
+    *framing = at.marked(packet.marker);
+    numbers.stand(at.stands_still);
+    numbers.note(packet, received);
+    counts.note(packet, received, text);
+    counts.frame(still, unbelieved);
+}
+
+/// What is known with a packet of where access units end: nothing more than before where it goes on
+/// with an access unit of which a slice came, so that it isn't looked into.
+#[inline]
+fn framing_of<D: RunDepacketizer>(
+    assembler: &AccessUnitAssembler<D>,
+    framing: Framing,
+    numbers: &NumbersSoFar,
+    packet: &RtpPacket<'_>,
+) -> Framing {
+    let is_open = assembler.unit.is_at(packet.timestamp);
+    let is_closed = is_timestamp(numbers.marked, packet.timestamp);
+    if is_open && framing.has_slice && !is_closed {
+        return framing;
+    }
+    let depacketizer = &assembler.packets.depacketizer;
+    if !is_closed {
+        // (what begins doesn't count then)
+        let shown = Shown {
+            has_slice: bears_slice(depacketizer, packet.payload),
+            first: None,
+        };
+        return framing.with(is_open, false, shown);
+    }
+    framing.with(is_open, true, shown_by(depacketizer, packet.payload))
+}
+
+/// Gives it a packet that is due, passes over one that it refuses, and notes what became of it: `at` is
+/// what is known with it of where access units end, and it has its marker where that is believed.
+/// Without memory all stays as it was.
+fn take_noted<D: RunDepacketizer>(
+    assembler: &mut AccessUnitAssembler<D>,
+    ended: &mut Vec<AccessUnit>,
+    framing: &mut Framing,
+    numbers: &mut NumbersSoFar,
+    counts: &mut Counts,
+    at: Framing,
+    packet: &RtpPacket<'_>,
+    marker: bool,
 ) -> Result<Received, PacketError> {
+    let still = begins_still(assembler, at, packet);
     match take_packet(assembler, packet, ended) {
         Ok(received) => {
             assembler.forget_marker();
-            numbers.note(packet, received);
-            counts.note(packet, received, assembler.is_text_given_up);
+            let text = assembler.is_text_given_up;
+            let unbelieved = is_unbelieved(marker, packet);
+            note_received(
+                framing, numbers, counts, at, packet, received, unbelieved, still, text,
+            );
             Ok(received)
         }
         Err(PacketError::OutOfMemory) => Err(PacketError::OutOfMemory),
         Err(error) => {
+            let extra = assembler.packets.depacketizer.extra(false);
+            if bears_no_unit(extra, error, packet.payload) {
+                pass_no_unit(assembler, ended, numbers, counts, packet)?;
+                return Err(error);
+            }
             let missing = missing_with(assembler.pass_over(packet.sequence));
             assembler.forget_marker();
             numbers.skip(missing);
@@ -75,27 +202,51 @@ fn take_noted<D: RunDepacketizer>(
     }
 }
 
-/// Whether numbers are missing right before one that is not late, where a packet was taken.
-fn is_behind_missing<D: RunDepacketizer>(assembler: &AccessUnitAssembler<D>, number: u16) -> bool {
+/// Whether a number is the one that is expected, or behind others that are missing.
+#[inline]
+fn is_in_reach<D: RunDepacketizer>(assembler: &AccessUnitAssembler<D>, number: u16) -> bool {
     match assembler.packets.expected {
-        Some(expected) => {
-            number.wrapping_sub(expected) < 0x8000
-                && (assembler.unit.is_gap() || number != expected)
-        }
+        Some(expected) => number.wrapping_sub(expected) < 0x8000,
         None => false,
     }
 }
 
-/// Whether a packet begins an access unit behind numbers that are missing.
-fn begins_behind_missing<D: RunDepacketizer>(
+/// Whether numbers are missing right before one that is not late, where a packet was taken.
+#[inline]
+fn is_behind_missing<D: RunDepacketizer>(assembler: &AccessUnitAssembler<D>, number: u16) -> bool {
+    if !is_in_reach(assembler, number) {
+        return false;
+    }
+    assembler.unit.is_gap() || !is_next(assembler.packets.expected, number)
+}
+
+/// Whether the access unit that is open, of a packet's timestamp, ends before it by its units. Where
+/// markers are trusted it isn't looked into.
+#[inline]
+fn ends_by_content<D: RunDepacketizer>(
     assembler: &AccessUnitAssembler<D>,
+    framing: Framing,
+    packet: &RtpPacket<'_>,
+) -> bool {
+    if framing.trusts_markers() || !framing.has_slice {
+        return false;
+    }
+    framing.ends_by_content(shown_by(&assembler.packets.depacketizer, packet.payload))
+}
+
+/// Whether the access unit that is open ends before a packet.
+#[inline]
+fn ends_before<D: RunDepacketizer>(
+    assembler: &AccessUnitAssembler<D>,
+    framing: Framing,
     packet: &RtpPacket<'_>,
 ) -> bool {
     if packet.payload.is_empty() {
         return false;
     }
     if assembler.unit.is_at(packet.timestamp) {
-        return false;
+        return is_in_reach(assembler, packet.sequence)
+            && ends_by_content(assembler, framing, packet);
     }
     is_behind_missing(assembler, packet.sequence)
 }
@@ -108,18 +259,42 @@ fn missing_before(expected: Option<u16>, number: u16) -> u16 {
     }
 }
 
-/// Takes a packet that is due as [`take_noted`] does. Where no number is expected its own is, if it
+/// Takes a packet that is due as [`take_noted`] does, with its marker where that is believed.
+fn take_seen<D: RunDepacketizer>(
+    assembler: &mut AccessUnitAssembler<D>,
+    ended: &mut Vec<AccessUnit>,
+    framing: &mut Framing,
+    numbers: &mut NumbersSoFar,
+    counts: &mut Counts,
+    packet: &RtpPacket<'_>,
+) -> Result<Received, PacketError> {
+    let at = framing_of(assembler, *framing, numbers, packet);
+    let taken = believed(at, packet);
+    take_noted(
+        assembler,
+        ended,
+        framing,
+        numbers,
+        counts,
+        at,
+        &taken,
+        packet.marker,
+    )
+}
+
+/// Takes a packet that is due as [`take_seen`] does. Where no number is expected its own is, if it
 /// has a payload, so that it is known of its access unit from it on whether something is missing.
 fn take_begun<D: RunDepacketizer>(
     assembler: &mut AccessUnitAssembler<D>,
     ended: &mut Vec<AccessUnit>,
+    framing: &mut Framing,
     numbers: &mut NumbersSoFar,
     counts: &mut Counts,
     packet: &RtpPacket<'_>,
 ) -> Result<Received, PacketError> {
     let expected = assembler.packets.expected;
     assembler.packets.expected = expected_for(expected, packet);
-    let received = take_noted(assembler, ended, numbers, counts, packet);
+    let received = take_seen(assembler, ended, framing, numbers, counts, packet);
     if is_want_of_memory(&received) {
         assembler.packets.expected = expected;
     }
@@ -159,6 +334,7 @@ impl<D: RunDepacketizer> AccessUnitReceiver<D> {
             is_anew: false,
             assembler: AccessUnitAssembler::new(packets, config.unit_limit),
             ended: Vec::new(),
+            framing: Framing::fresh(),
             numbers: NumbersSoFar::none(),
             decoder: DecoderState::fresh(),
             counts: Counts::none(),
@@ -170,7 +346,7 @@ impl<D: RunDepacketizer> AccessUnitReceiver<D> {
     /// `next` hasn't given out. One without a payload came and bears nothing. Without memory all stays
     /// as it was, and it can be given again; one that isn't kept wants none.
     pub fn try_push(&mut self, now: u32, packet: &RtpPacket<'_>) -> Result<Pushed, PacketError> {
-        if self.takes_at_once(packet.sequence) {
+        if self.takes_at_once(packet) {
             self.take_at_once(packet)?;
             return Ok(Pushed::Held);
         }
@@ -188,12 +364,16 @@ impl<D: RunDepacketizer> AccessUnitReceiver<D> {
         Ok(pushed)
     }
 
-    /// Whether a packet with this number is taken at once.
-    fn takes_at_once(&self, number: u16) -> bool {
-        if !self.waiting.goes_straight(number) {
+    /// Whether a packet is taken at once.
+    #[inline(always)]
+    fn takes_at_once(&self, packet: &RtpPacket<'_>) -> bool {
+        if !self.waiting.goes_straight(packet.sequence) {
             return false;
         }
-        if is_behind_missing(&self.assembler, number) {
+        if is_behind_missing(&self.assembler, packet.sequence) {
+            return false;
+        }
+        if ends_before(&self.assembler, self.framing, packet) {
             return false;
         }
         let none_ended = !self.has_ended();
@@ -202,9 +382,11 @@ impl<D: RunDepacketizer> AccessUnitReceiver<D> {
 
     /// Takes a packet at once, which waits no more than one that is due.
     fn take_at_once(&mut self, packet: &RtpPacket<'_>) -> Result<(), PacketError> {
+        let sequence = packet.sequence;
         let received = take_begun(
             &mut self.assembler,
             &mut self.ended,
+            &mut self.framing,
             &mut self.numbers,
             &mut self.counts,
             packet,
@@ -212,7 +394,7 @@ impl<D: RunDepacketizer> AccessUnitReceiver<D> {
         if is_want_of_memory(&received) {
             return Err(PacketError::OutOfMemory);
         }
-        self.waiting.pass(packet.sequence);
+        self.waiting.pass(sequence);
         Ok(())
     }
 
@@ -266,7 +448,7 @@ impl<D: RunDepacketizer> AccessUnitReceiver<D> {
     /// Takes a packet that has memory of its own, and copies nothing of it, but of a stray. One that
     /// doesn't wait comes back as it was given, with the reason.
     pub fn push_held(&mut self, now: u32, packet: HeldPacket) -> Result<Pushed, NotPushed> {
-        if self.takes_at_once(packet.sequence) {
+        if self.takes_at_once(&packet.packet()) {
             return self.take_held_at_once(packet);
         }
         if self.waiting.is_far(packet.sequence) {
@@ -299,20 +481,25 @@ impl<D: RunDepacketizer> AccessUnitReceiver<D> {
         self.try_push(now, &packet)
     }
 
-    /// Where the packet that is due begins an access unit behind numbers that are missing, ends the one
-    /// that is open; the answer is whether it does. Without memory all stays as it was.
-    fn end_behind_missing(&mut self, now: u32) -> Result<bool, PacketError> {
+    /// Ends the access unit that is open where it ends before the packet that is due; the answer is
+    /// whether it does. Without memory all stays as it was.
+    fn end_before(&mut self, now: u32) -> Result<bool, PacketError> {
         let packet = match self.waiting.first_due(now) {
             Some(held) => held.packet(),
             None => return Ok(false),
         };
-        if !begins_behind_missing(&self.assembler, &packet) {
+        if !ends_before(&self.assembler, self.framing, &packet) {
             return Ok(false);
         }
-        let missing = missing_before(self.assembler.packets.expected, packet.sequence);
-        self.assembler.finish(&mut self.ended)?;
-        self.numbers.miss(u32::from(missing));
-        self.counts.drop(usize::from(missing));
+        if is_behind_missing(&self.assembler, packet.sequence) {
+            let missing = missing_before(self.assembler.packets.expected, packet.sequence);
+            self.assembler.finish(&mut self.ended)?;
+            self.numbers.miss(u32::from(missing));
+            self.counts.drop(usize::from(missing));
+        } else {
+            self.assembler.end(&mut self.ended)?;
+            self.numbers.close();
+        }
         Ok(true)
     }
 
@@ -325,6 +512,7 @@ impl<D: RunDepacketizer> AccessUnitReceiver<D> {
         let received = take_begun(
             &mut self.assembler,
             &mut self.ended,
+            &mut self.framing,
             &mut self.numbers,
             &mut self.counts,
             &packet,
@@ -340,16 +528,17 @@ impl<D: RunDepacketizer> AccessUnitReceiver<D> {
     fn end_if_anew(&mut self) -> Result<(), PacketError> {
         if self.ended.is_empty() && self.is_anew {
             self.assembler.finish(&mut self.ended)?;
+            self.framing = Framing::fresh();
             self.numbers.finish();
             self.is_anew = false;
         }
         Ok(())
     }
 
-    /// Takes the packet that is due, if one is; where that begins an access unit behind numbers that
-    /// are missing the one that is open ends first, and if there is one the packet is due still.
+    /// Takes the packet that is due, if one is; where the access unit that is open ends before it
+    /// that ends first, and if there is one the packet is due still.
     fn step(&mut self, now: u32) -> Result<bool, PacketError> {
-        if !self.end_behind_missing(now)? {
+        if !self.end_before(now)? {
             return self.take_due(now);
         }
         if self.has_ended() {
@@ -360,8 +549,40 @@ impl<D: RunDepacketizer> AccessUnitReceiver<D> {
 
     /// Takes packets that are due until an access unit has ended, or none is due.
     fn drain(&mut self, now: u32) -> Result<(), PacketError> {
-        while !self.has_ended() && self.step(now)? {}
+        while self.drop_bare() && self.step(now)? {}
         Ok(())
+    }
+
+    /// Drops the access units that ended first and have no bytes; the answer is whether none is left.
+    #[inline]
+    fn drop_bare(&mut self) -> bool {
+        while self.has_bare() {
+            self.pass_bare();
+        }
+        self.ended.is_empty()
+    }
+
+    /// Whether the first access unit that ended has no bytes.
+    #[inline]
+    fn has_bare(&self) -> bool {
+        match self.ended.first() {
+            Some(unit) => unit.bytes.is_empty(),
+            None => false,
+        }
+    }
+
+    /// Passes over the first access unit that ended, which has no bytes: what is missing of it is told
+    /// with the next one.
+    #[cold]
+    #[inline(never)]
+    fn pass_bare(&mut self) {
+        let unit = self.ended.remove(0);
+        let numbers = self.numbers.give();
+        let is_avc = self.assembler.packets.depacketizer.is_avc();
+        let has_sets = self.waiting.config().has_sets;
+        unit::pass(&mut self.decoder, has_sets, is_avc, &unit, numbers);
+        self.numbers.carry(numbers.missing);
+        self.assembler.give_back(unit);
     }
 
     /// Whether an access unit has ended and wasn't given out.
@@ -373,6 +594,7 @@ impl<D: RunDepacketizer> AccessUnitReceiver<D> {
     fn end_if_over(&mut self) -> Result<(), PacketError> {
         if self.ended.is_empty() && self.waiting.is_over() {
             self.assembler.finish(&mut self.ended)?;
+            self.framing = Framing::fresh();
             self.numbers.finish();
             self.waiting.restart();
             self.stray = None;
@@ -414,9 +636,11 @@ impl<D: RunDepacketizer> AccessUnitReceiver<D> {
 
     /// What `next` does.
     fn next_due(&mut self, now: u32) -> Result<Option<ReceivedAccessUnit>, PacketError> {
+        let _ = self.drop_bare();
         self.end_if_anew()?;
         self.drain(now)?;
         self.end_if_over()?;
+        let _ = self.drop_bare();
         Ok(self.give())
     }
 
@@ -448,6 +672,7 @@ impl<D: RunDepacketizer> AccessUnitReceiver<D> {
         self.is_anew = false;
         self.assembler.restart();
         self.ended.clear();
+        self.framing = Framing::fresh();
         self.numbers = NumbersSoFar::none();
         self.decoder = DecoderState::fresh();
     }

@@ -62,6 +62,18 @@ impl core::fmt::Debug for ReceivedAccessUnit {
     }
 }
 
+/// What is known of a decoder with an access unit that isn't given out, since it has no bytes.
+pub(crate) fn pass(
+    decoder: &mut DecoderState,
+    has_sets: bool,
+    is_avc: bool,
+    unit: &AccessUnit,
+    numbers: AccessUnitNumbers,
+) {
+    let content = content_of(is_avc, unit.extra, &unit.bytes);
+    *decoder = decoder.after(has_sets, unit.is_whole, unit.extra, numbers, content);
+}
+
 impl ReceivedAccessUnit {
     /// An access unit with its numbers, by what is known of a decoder, and then with it.
     #[inline]
