@@ -108,7 +108,8 @@ type AccessUnit struct {
 	IsClean bool
 	// IsDisposable: no other picture refers to its own: those after it can be clean where it is damaged.
 	IsDisposable bool
-	// Continues: a marker ended one of its timestamp right before it, as where a peer sets the marker on each slice.
+	// Continues: a marker ended one of its timestamp right before it, with which it goes on, as where a peer sets the
+	// marker on each slice.
 	Continues bool
 	// First and Last are the numbers of the first packet that came of it and of the last.
 	First, Last uint16
@@ -128,7 +129,7 @@ type Counts struct {
 	Twice uint64
 	// Stray: packets whose number was too far from the one that was due.
 	Stray uint64
-	// Refused: packets that were refused for what they are.
+	// Refused: packets that were refused for what they are, but for those of NoUnit.
 	Refused uint64
 	// Skipped: numbers that came and bear nothing.
 	Skipped uint64
@@ -142,6 +143,13 @@ type Counts struct {
 	UnitsGivenUp uint64
 	// TextsGivenUp: texts of open access units that were longer than their limit.
 	TextsGivenUp uint64
+	// NoUnit: packets refused that bear nothing to be written, so that nothing is lost by them: a STAP-B, MTAP, FU-B or
+	// PACSI, and an end of sequence or bitstream of two bytes.
+	NoUnit uint64
+	// Still: access units that began, by their units, at the timestamp of the one before.
+	Still uint64
+	// Unbelieved: markers that weren't believed: no slice of their access unit had come, or the sender marks each slice.
+	Unbelieved uint64
 }
 
 // An AccessUnitReceiver takes packets as a network brings them, some lost, some twice and in any order, and gives out
@@ -261,7 +269,8 @@ func (call *receivingUnits) became(code C.uint32_t) (Pushed, uint16, error) {
 }
 
 // Next is the next access unit, if one has ended at this tick, in memory that is the caller's; else nil. Call it until
-// there is none. Packets that are refused are passed over, and counted.
+// there is none. Packets that are refused are passed over, and counted. One without bytes isn't given out: what is missing
+// of it is told with the next one.
 //
 // Its errors are ErrOutOfMemory, of which nothing is lost, so that the call can be made again, and ErrClosed.
 func (r *AccessUnitReceiver) Next(now uint32) (*AccessUnit, error) {
@@ -416,5 +425,8 @@ func (r *AccessUnitReceiver) Counts() (Counts, error) {
 		Whole:        uint64(told.whole),
 		UnitsGivenUp: uint64(told.units_given_up),
 		TextsGivenUp: uint64(told.texts_given_up),
+		NoUnit:       uint64(told.no_unit),
+		Still:        uint64(told.still),
+		Unbelieved:   uint64(told.unbelieved),
 	}, nil
 }

@@ -37,6 +37,11 @@ func pictures(codec h26x.Codec) (key, slice []byte) {
 	return units[0], units[1]
 }
 
+// later is the second slice of a keyframe's picture.
+func later(codec h26x.Codec) []byte {
+	return some(map[h26x.Codec]string{h26x.H264: "6540", h26x.H265: "26012c", h26x.H266: "004140"}[codec])
+}
+
 // pushes gives a packet, and compares what became of it; behind is how far behind it is late.
 func pushes(t *testing.T, r *h26x.AccessUnitReceiver, now uint32, sequence uint16, timestamp uint32, marker bool,
 	payload []byte, wanted h26x.Pushed, behind ...uint16) {
@@ -168,36 +173,40 @@ func TestPacketsMissingLateAndTwice(t *testing.T) {
 	}
 }
 
-// A marker on each slice, on a fragment in the middle, and none.
+// No marker, one on a fragment in the middle, and one on each slice.
 func TestMarkersOfPeers(t *testing.T) {
 	for _, codec := range codecs {
 		config := small()
 		config.Window = 1
 		r, f := newAccessUnitReceiver(t, codec, config), fragmentsOf(codec)
 		key, slice := pictures(codec)
+		more := later(codec)
 		pushes(t, r, 0, 10, 0, true, key, h26x.Held)
-		pushes(t, r, 0, 11, 3000, true, key, h26x.Held)
-		gives(t, r, 0, start(one(codec, 0, 10, key)), clean(one(codec, 3000, 11, key)))
-		pushes(t, r, 0, 12, 3000, true, slice, h26x.Held)
-		// Nothing is missing, but nobody knows whether the picture goes on again.
-		goesOn := start(one(codec, 3000, 12, slice))
+		gives(t, r, 0, start(one(codec, 0, 10, key)))
+		// Without a marker the next timestamp is the end.
+		pushes(t, r, 0, 11, 3000, false, slice, h26x.Held)
+		pushes(t, r, 0, 12, 3000, false, more, h26x.Held)
+		gives(t, r, 0)
+		pushes(t, r, 0, 13, 6000, true, key, h26x.Held)
+		two := clean(one(codec, 3000, 11, more))
+		two.Bytes, two.Last = append(annexB(slice), annexB(more)...), 12
+		gives(t, r, 0, two, clean(one(codec, 6000, 13, key)))
+		// The run that is open at the marker goes with it, and the last fragment is left alone: neither half has bytes.
+		pushes(t, r, 0, 14, 9000, false, f.start, h26x.Held)
+		pushes(t, r, 0, 15, 9000, true, f.middle, h26x.Held)
+		gives(t, r, 0)
+		pushes(t, r, 0, 16, 9000, true, f.end, h26x.Held)
+		gives(t, r, 0)
+		pushes(t, r, 0, 17, 12000, true, key, h26x.Held)
+		gives(t, r, 0, clean(one(codec, 12000, 17, key)))
+		// Nothing is missing, but nobody knows whether the picture goes on again; from then on the next timestamp is the end.
+		pushes(t, r, 0, 18, 12000, true, more, h26x.Held)
+		gives(t, r, 0)
+		pushes(t, r, 0, 19, 15000, true, slice, h26x.Held)
+		goesOn := start(one(codec, 12000, 18, more))
 		goesOn.Continues = true
 		gives(t, r, 0, goesOn)
-		// The run that is open at the marker goes with it, and the last fragment is left alone.
-		pushes(t, r, 0, 13, 6000, false, f.start, h26x.Held)
-		pushes(t, r, 0, 14, 6000, true, f.middle, h26x.Held)
-		gives(t, r, 0, h26x.AccessUnit{Timestamp: 6000, Bytes: []byte{}, First: 13, Last: 14})
-		pushes(t, r, 0, 15, 6000, true, f.end, h26x.Held)
-		gives(t, r, 0, h26x.AccessUnit{Timestamp: 6000, Bytes: []byte{}, First: 15, Last: 15, Continues: true})
-		// Without a marker the next timestamp is the end.
-		pushes(t, r, 0, 16, 9000, false, slice, h26x.Held)
-		pushes(t, r, 0, 17, 9000, false, slice, h26x.Held)
-		gives(t, r, 0)
-		pushes(t, r, 0, 18, 12000, true, key, h26x.Held)
-		two := whole(one(codec, 9000, 16, slice))
-		two.Bytes, two.Last = append(annexB(slice), annexB(slice)...), 17
-		gives(t, r, 0, two, clean(one(codec, 12000, 18, key)))
-		counts(t, r, h26x.Counts{Taken: 9, Units: 7, Whole: 3})
+		counts(t, r, h26x.Counts{Taken: 10, Units: 5, Whole: 3, Unbelieved: 2})
 	}
 }
 
@@ -267,7 +276,7 @@ func TestStraysAndAStreamThatBeginsAnew(t *testing.T) {
 
 func TestLimitsOfWhatWaits(t *testing.T) {
 	for _, codec := range codecs {
-		_, slice := pictures(codec)
+		slice := later(codec)
 		long := append(append([]byte(nil), slice...), make([]byte, 15-len(slice))...)
 		r := newAccessUnitReceiver(t, codec, small())
 		// 15 bytes wait, then 30, which is past 20: no more, and the first are due.
@@ -344,7 +353,7 @@ func TestTheEndOfAStreamAndAnotherSender(t *testing.T) {
 
 // What is refused is passed over, and counts as missing.
 func TestRefusedPackets(t *testing.T) {
-	refused := map[h26x.Codec][]byte{h26x.H264: some("7f01"), h26x.H265: some("a601ff"), h26x.H266: some("8039ff")}
+	refused := map[h26x.Codec][]byte{h26x.H264: some("7c"), h26x.H265: some("a601ff"), h26x.H266: some("8039ff")}
 	for _, codec := range codecs {
 		config := small()
 		config.Window = 1
@@ -397,8 +406,8 @@ func TestDefaultsOfSettings(t *testing.T) {
 	pushes(t, r, 0, 1001, 3000, false, slice, h26x.Held)
 	gives(t, r, 0)
 	pushes(t, r, 0, 1002, 3000, true, f.start, h26x.Held)
-	gives(t, r, 0, h26x.AccessUnit{Timestamp: 3000, Bytes: []byte{}, First: 1001, Last: 1002})
-	counts(t, r, h26x.Counts{Taken: 3, Units: 2, UnitsGivenUp: 1, TextsGivenUp: 1})
+	gives(t, r, 0)
+	counts(t, r, h26x.Counts{Taken: 3, Units: 1, UnitsGivenUp: 1, TextsGivenUp: 1})
 
 	// Without a setting 8,000,000 bytes may wait, and a packet.
 	r = newAccessUnitReceiver(t, h26x.H264, h26x.AccessUnitConfig{Window: 1 << 14})
@@ -407,6 +416,14 @@ func TestDefaultsOfSettings(t *testing.T) {
 		pushes(t, r, 0, uint16(2*n), 0, false, packet, h26x.Held)
 	}
 	pushes(t, r, 0, 400, 0, false, packet, h26x.Full)
+}
+
+// bytesIn is how many bytes an access unit has: one without bytes isn't given out.
+func bytesIn(unit *h26x.AccessUnit) int {
+	if unit == nil {
+		return 0
+	}
+	return len(unit.Bytes)
 }
 
 // An open unit may hold 4,000,000 bytes without a setting, an open access unit 8,000,000.
@@ -419,8 +436,8 @@ func TestDefaultLimitsOfWhatIsOpen(t *testing.T) {
 		done(t, err)
 		counted, err := r.Counts()
 		done(t, err)
-		if wanted := (1 - more) * (4 + 1 + 4_000_000 + 1); len(unit.Bytes) != wanted || counted.UnitsGivenUp != uint64(more) {
-			t.Errorf("%d bytes more: got %d, and %d given up", more, len(unit.Bytes), counted.UnitsGivenUp)
+		if wanted := (1 - more) * (4 + 1 + 4_000_000 + 1); bytesIn(unit) != wanted || counted.UnitsGivenUp != uint64(more) {
+			t.Errorf("%d bytes more: got %d, and %d given up", more, bytesIn(unit), counted.UnitsGivenUp)
 		}
 		r = newAccessUnitReceiver(t, h26x.H264, h26x.AccessUnitConfig{Window: 1})
 		pushes(t, r, 0, 1, 0, false, append(some("61"), make([]byte, 8_000_000-4-1+more)...), h26x.Held)
@@ -429,8 +446,8 @@ func TestDefaultLimitsOfWhatIsOpen(t *testing.T) {
 		done(t, err)
 		counted, err = r.Counts()
 		done(t, err)
-		if len(unit.Bytes) != (1-more)*8_000_000 || counted.TextsGivenUp != uint64(more) {
-			t.Errorf("%d bytes more: got %d, and %d given up", more, len(unit.Bytes), counted.TextsGivenUp)
+		if bytesIn(unit) != (1-more)*8_000_000 || counted.TextsGivenUp != uint64(more) {
+			t.Errorf("%d bytes more: got %d, and %d given up", more, bytesIn(unit), counted.TextsGivenUp)
 		}
 	}
 }

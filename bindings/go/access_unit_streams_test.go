@@ -12,11 +12,10 @@ type sentUnit struct {
 	units       []placed
 }
 
-// sentUnits are the packets of a stream, and its access units, each of two slices with what is before them, or of one where
-// parameter sets are behind that.
+// sentUnits are the packets of a stream, and its access units.
 func sentUnits(t *testing.T, codec h26x.Codec, mtu uint16) (packets [][]byte, all []sentUnit) {
 	t.Helper()
-	p, part, slices := newPacketizer(t, codec, false), [][]byte(nil), 0
+	p, part, hasSlice := newPacketizer(t, codec, false), [][]byte(nil), false
 	send := func() {
 		first := len(packets)
 		packets = append(packets, p.Payload(mtu, text(false, part...))...)
@@ -25,23 +24,18 @@ func sentUnits(t *testing.T, codec h26x.Codec, mtu uint16) (packets [][]byte, al
 			one.units[i].first += first
 			one.units[i].last += first
 		}
-		all, part, slices = append(all, one), nil, 0
+		all, part, hasSlice = append(all, one), nil, false
 	}
 	for _, unit := range sent(t, codec) {
-		if role := roleOf(codec, unit); slices > 0 && (role == vps || role == sps) {
+		role := roleOf(codec, unit)
+		// A picture's second slice of these streams has a picture header before the first one, and a suffix no role.
+		if hasSlice && role != 0 && (role != slice || roleOf(codec, part[0]) != header) {
 			send()
 		}
 		part = append(part, unit)
-		if isSlice(codec, unit) {
-			slices++
-		}
-		if slices == 2 {
-			send()
-		}
+		hasSlice = hasSlice || role == slice
 	}
-	if slices > 0 {
-		send()
-	}
+	send()
 	return packets, all
 }
 
@@ -154,7 +148,7 @@ func (d *decoder) isFront(codec h26x.Codec, units [][]byte) bool {
 // left is the access units that must be given out where these packets came, computed from these alone: of each what its
 // units are of which each packet came, and what a decoder can do with these.
 func left(codec h26x.Codec, all []sentUnit, came map[int]bool, numberOf func(int) uint16) (units []h26x.AccessUnit) {
-	before, known := -1, decoder{}
+	before, known, hasBegun, carried := -1, decoder{}, false, uint32(0)
 	for i, one := range all {
 		first, last, count := -1, -1, 0
 		for n := one.first; n <= one.last; n++ {
@@ -168,8 +162,8 @@ func left(codec h26x.Codec, all []sentUnit, came map[int]bool, numberOf func(int
 		if count == 0 {
 			continue
 		}
-		follows, isUnbroken := first == before+1 && len(units) > 0, count == one.last-first+1
-		if len(units) == 0 {
+		follows, isUnbroken := first == before+1 && hasBegun, count == one.last-first+1
+		if !hasBegun {
 			before = first - 1
 		}
 		unit := h26x.AccessUnit{
@@ -184,9 +178,27 @@ func left(codec h26x.Codec, all []sentUnit, came map[int]bool, numberOf func(int
 		}
 		unit.Bytes, unit.Extra = textOf(codec, there)
 		unit.IsWhole, unit.IsClean, unit.IsDisposable = known.takes(codec, there, follows, isUnbroken)
-		units, before = append(units, unit), last
+		before, hasBegun = last, true
+		// What is missing of one without bytes is told with the next one.
+		unit.Missing += carried
+		carried = unit.Missing
+		if len(there) > 0 {
+			units, carried = append(units, unit), 0
+		}
 	}
 	return units
+}
+
+// bearsSlice tells whether something of a slice of an access unit came.
+func bearsSlice(codec h26x.Codec, one sentUnit, came map[int]bool) bool {
+	for _, its := range one.units {
+		for n := its.first; n <= its.last; n++ {
+			if isSlice(codec, its.unit) && came[n] {
+				return true
+			}
+		}
+	}
+	return false
 }
 
 // timestampOf is that of an access unit: they go round in the middle of a stream.
@@ -305,8 +317,15 @@ func unitsThroughLosses(t *testing.T, codec h26x.Codec, config h26x.AccessUnitCo
 		t.Fatalf("%d late and %d twice, of %d that came again", counted.Late, counted.Twice, len(coming)-len(came))
 	}
 	counted.Late, counted.Twice = 0, 0
+	unbelieved := uint64(0)
+	for _, one := range all {
+		if came[one.last] && !bearsSlice(codec, one, came) {
+			unbelieved++
+		}
+	}
 	if counted != (h26x.Counts{
 		Taken: uint64(len(came)), Lost: uint64(highest - lowest + 1 - len(came)), Units: uint64(len(wanted)), Whole: wholes,
+		Unbelieved: unbelieved,
 	}) {
 		t.Fatalf("got %+v", counted)
 	}

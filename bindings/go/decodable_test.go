@@ -156,9 +156,10 @@ func TestAFirstNumberThatIsTold(t *testing.T) {
 		waits(t, r, 207)
 		gives(t, r, 206)
 		pushes(t, r, 7, 65534, 0, true, k.slice, h26x.PushedLate, 1)
-		pushes(t, r, 7, 65535, 3000, false, k.slice, h26x.Held)
-		pushes(t, r, 7, 0, 3000, false, k.key, h26x.Held)
-		gives(t, r, 7, whole(several(codec, 3000, 65535, k.slice, k.key, k.second)))
+		pps := k.sets[len(k.sets)-1]
+		pushes(t, r, 7, 65535, 3000, false, pps, h26x.Held)
+		pushes(t, r, 7, 0, 3000, false, k.slice, h26x.Held)
+		gives(t, r, 7, whole(several(codec, 3000, 65535, pps, k.slice, k.second)))
 		if r.BeginAt(2) {
 			t.Error("packets came")
 		}
@@ -377,7 +378,7 @@ func TestWholeByTheFirstUnit(t *testing.T) {
 		begin(whole, whole, k.delimiter, k.slice)
 		begin(clean, clean, append([][]byte{k.delimiter}, k.keyframe()...)...)
 		begin(clean, start, k.keyframe()...)
-		begin(no, no, k.slice, k.slice)
+		begin(no, no, k.slice, k.second)
 		begin(no, no, k.sets[len(k.sets)-1], k.slice)
 		sps := k.sets[len(k.sets)-2]
 		if codec == h26x.H265 {
@@ -413,12 +414,9 @@ func TestAMarkerBeforeMissingNumbers(t *testing.T) {
 	eachKind(t, func(t *testing.T, codec h26x.Codec, k kinds, r *h26x.AccessUnitReceiver) {
 		comes(t, r, 0, 10, 0, k.keyframe()...)
 		n := 10 + uint16(len(k.keyframe()))
-		comes(t, r, 0, n, 0, k.second)
-		comes(t, r, 0, n+2, 0, k.second)
+		comes(t, r, 0, n+1, 0, k.second)
 		done(t, r.Finish())
-		goesOn := start(one(codec, 0, n, k.second))
-		goesOn.Continues = true
-		gives(t, r, 0, clean(several(codec, 0, 10, k.keyframe()...)), goesOn, missing(one(codec, 0, n+2, k.second), 1))
+		gives(t, r, 0, clean(several(codec, 0, 10, k.keyframe()...)), missing(one(codec, 0, n+1, k.second), 1))
 	})
 }
 
@@ -466,7 +464,7 @@ func TestUnitsBehindLengths(t *testing.T) {
 				gives(t, r, 0, wanted)
 				n += uint16(len(units))
 			}
-			behind(func(unit h26x.AccessUnit) h26x.AccessUnit { return unit }, k.second, k.key)
+			behind(func(unit h26x.AccessUnit) h26x.AccessUnit { return unit }, k.second, k.second)
 			behind(clean, append(append([][]byte{k.delimiter}, k.keyframe()...), k.second)...)
 			behind(func(unit h26x.AccessUnit) h26x.AccessUnit { return disposable(clean(unit)) }, k.disposable)
 		}

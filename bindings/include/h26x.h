@@ -408,8 +408,11 @@ H26X_API size_t h26x_receiver_run_len(const h26x_receiver *r);
 
 /* ---- Receiving access units, of packets as a network brings them ---- */
 
-/** Packets wait for those before them by their numbers, and go into a receiver in order; what it writes between two
- * markers, or of one timestamp, is an access unit. So packets may be lost, come twice and in any order. */
+/** Packets wait for those before them by their numbers, and go into a receiver in order; what it writes up to a marker, or
+ * of one timestamp, is an access unit. So packets may be lost, come twice and in any order. A marker without a slice ends
+ * none, nor does any of a sender that marks each slice. Where no marker was believed yet, or timestamps stand still, one
+ * ends, once a slice of it came, before a delimiter, parameter sets, SEI and the like, or a picture's first slice: so it is
+ * given out with what begins the next one. */
 typedef struct { void *at; /**< NULL: no handle */ } h26x_access_units;
 
 /** What a caller sets. Ticks are his own: `now` in the calls below, max_wait and the deadline are in them. They go round
@@ -462,8 +465,8 @@ typedef struct {
                            * pictures behind a CRA with which a decoder begins, which it passes over, are clean too. A first
                            * slice is looked for among 64 units. False: ask the sender for a keyframe */
     bool is_disposable;   /**< no other picture refers to its own: those after it can be clean where it is damaged */
-    bool continues;       /**< a marker ended one of its timestamp right before it, as where a peer sets the marker on each
-                           * slice */
+    bool continues;       /**< a marker ended one of its timestamp right before it, with which it goes on, as where a peer
+                           * sets the marker on each slice */
 } h26x_access_unit;
 
 /** What was counted since it was made. Each count stays at 2^64 - 1. */
@@ -473,13 +476,18 @@ typedef struct {
     uint64_t late;           /**< packets that came after their place was passed */
     uint64_t twice;          /**< packets that came while one with their number waited */
     uint64_t stray;          /**< packets whose number was too far from the one that was due */
-    uint64_t refused;        /**< packets that were refused for what they are */
+    uint64_t refused;        /**< packets that were refused for what they are, but for those of no_unit */
     uint64_t skipped;        /**< numbers that came and bear nothing */
     uint64_t anew;           /**< how often the stream began anew */
     uint64_t units;          /**< access units that ended and were told of */
     uint64_t whole;          /**< those of them that are known to be whole */
     uint64_t units_given_up; /**< NAL units that were longer than run_limit */
     uint64_t texts_given_up; /**< texts of open access units that were longer than unit_limit */
+    uint64_t no_unit;        /**< packets refused that bear nothing to be written, so that nothing is lost by them: a STAP-B,
+                              * MTAP, FU-B or PACSI, and an end of sequence or bitstream of two bytes */
+    uint64_t still;          /**< access units that began, by their units, at the timestamp of the one before */
+    uint64_t unbelieved;     /**< markers that weren't believed: no slice of their access unit had come, or the sender
+                              * marks each slice */
 } h26x_access_units_counts;
 
 /** A receiver of access units that takes any number as the first. H26X_UNKNOWN_CODEC, H26X_NOT_OF_THIS_CODEC (numbers for
@@ -517,7 +525,8 @@ H26X_API uint32_t h26x_access_units_skip(h26x_access_units *u, uint32_t now, uin
 /** The next access unit, if one has ended at this tick: its bytes to the front of `to`, and *unit. H26X_NOTHING_YET where
  * none has. H26X_NO_ROOM where it doesn't fit in `room` bytes: *unit is told, `to` is left, and the access unit is kept
  * for the next call. H26X_OUT_OF_MEMORY: the packet for which memory lacks is due still, and nothing is lost.
- * H26X_WRONG_END. Packets that are refused are passed over and counted. All but H26X_OK and H26X_NO_ROOM leave *unit. */
+ * H26X_WRONG_END. Packets that are refused are passed over and counted. An access unit without bytes is not given out:
+ * what is missing of it is told with the next one. All but H26X_OK and H26X_NO_ROOM leave *unit. */
 H26X_API uint32_t h26x_access_units_next(h26x_access_units *u, uint32_t now, uint8_t *to, size_t room,
                                          h26x_access_unit *unit) H26X_MUST_USE;
 

@@ -42,7 +42,8 @@ SMALL = AccessUnitConfig(
 )
 AT_ONCE = replace(SMALL, window=1)
 
-#: The first slices of a keyframe and of another picture, which are packets as they stand.
+#: The second slice of a keyframe, and the first slices of one and of another picture, which are packets as they stand.
+LATER = {Codec.H264: some("6540"), Codec.H265: some("26012c"), Codec.H266: some("004140")}
 PICTURES: Dict[Codec, Tuple[bytes, bytes]] = {
     codec: (many(digits)[0], many(digits)[1])
     for codec, digits in (
@@ -128,31 +129,34 @@ def test_packets_missing_late_and_twice(codec: Codec) -> None:
 
 
 def test_markers_of_peers(codec: Codec) -> None:
-    """A marker on each slice, on a fragment in the middle, and none."""
+    """None, one on a fragment in the middle, and one on each slice."""
     receiver, (start, middle, end, _) = AccessUnitReceiver(codec, AT_ONCE), FRAGMENTS[codec]
-    key, slice_ = PICTURES[codec]
+    (key, slice_), more = PICTURES[codec], LATER[codec]
     pushes(receiver, 0, (10, 0, True, key))
-    pushes(receiver, 0, (11, 3000, True, key))
-    clean = one(codec, 3000, 11, key, is_whole=True, is_clean=True)
-    gives(receiver, 0, one(codec, 0, 10, key, is_clean=True), clean)
-    pushes(receiver, 0, (12, 3000, True, slice_))
-    # Nothing is missing, but nobody knows whether the picture goes on again.
-    gives(receiver, 0, one(codec, 3000, 12, slice_, continues=True, is_clean=True))
-    # The run that is open at the marker goes with it, and the last fragment is left alone.
-    nothing = one(codec, 6000, 13, slice_, data=b"", is_keyframe=None)
-    pushes(receiver, 0, (13, 6000, False, start))
-    pushes(receiver, 0, (14, 6000, True, middle))
-    gives(receiver, 0, replace(nothing, last=14))
-    pushes(receiver, 0, (15, 6000, True, end))
-    gives(receiver, 0, replace(nothing, first=15, last=15, continues=True))
+    gives(receiver, 0, one(codec, 0, 10, key, is_clean=True))
     # Without a marker the next timestamp is the end.
-    pushes(receiver, 0, (16, 9000, False, slice_))
-    pushes(receiver, 0, (17, 9000, False, slice_))
+    pushes(receiver, 0, (11, 3000, False, slice_))
+    pushes(receiver, 0, (12, 3000, False, more))
     gives(receiver, 0)
-    pushes(receiver, 0, (18, 12000, True, key))
-    two = one(codec, 9000, 16, slice_, data=annex_b([slice_] * 2), last=17, is_whole=True)
-    gives(receiver, 0, two, one(codec, 12000, 18, key, is_whole=True, is_clean=True))
-    assert receiver.counts() == Counts(taken=9, units=7, whole=3)
+    pushes(receiver, 0, (13, 6000, True, key))
+    clean = {"is_whole": True, "is_clean": True}
+    two = one(codec, 3000, 11, more, data=annex_b([slice_, more]), last=12, **clean)
+    gives(receiver, 0, two, one(codec, 6000, 13, key, **clean))
+    # The run that is open at the marker goes with it, and the last fragment is left alone: neither half has bytes.
+    pushes(receiver, 0, (14, 9000, False, start))
+    pushes(receiver, 0, (15, 9000, True, middle))
+    gives(receiver, 0)
+    pushes(receiver, 0, (16, 9000, True, end))
+    gives(receiver, 0)
+    pushes(receiver, 0, (17, 12000, True, key))
+    gives(receiver, 0, one(codec, 12000, 17, key, **clean))
+    # Nothing is missing, but nobody knows whether the picture goes on again; from then on the next timestamp is the
+    # end.
+    pushes(receiver, 0, (18, 12000, True, more))
+    gives(receiver, 0)
+    pushes(receiver, 0, (19, 15000, True, slice_))
+    gives(receiver, 0, one(codec, 12000, 18, more, continues=True, is_clean=True))
+    assert receiver.counts() == Counts(taken=10, units=5, whole=3, unbelieved=2)
 
 
 def test_numbers_that_bear_nothing(codec: Codec) -> None:
@@ -205,7 +209,7 @@ def test_strays_and_a_stream_that_begins_anew(codec: Codec) -> None:
 
 
 def test_limits_of_what_waits(codec: Codec) -> None:
-    receiver, slice_ = AccessUnitReceiver(codec, SMALL), PICTURES[codec][1]
+    receiver, slice_ = AccessUnitReceiver(codec, SMALL), LATER[codec]
     long = slice_ + bytes(15 - len(slice_))
     # 15 bytes wait, then 30, which is past 20: no more, and the first are due.
     pushes(receiver, 0, (10, 0, False, long))
@@ -269,7 +273,7 @@ def test_the_end_of_a_stream_and_another_sender(codec: Codec) -> None:
 
 def test_refused_packets(codec: Codec) -> None:
     """They are passed over, and count as missing."""
-    refused = {Codec.H264: some("7f01"), Codec.H265: some("a601ff"), Codec.H266: some("8039ff")}
+    refused = {Codec.H264: some("7c"), Codec.H265: some("a601ff"), Codec.H266: some("8039ff")}
     receiver, (key, slice_) = AccessUnitReceiver(codec, AT_ONCE), PICTURES[codec]
     pushes(receiver, 0, (10, 0, True, key))
     pushes(receiver, 0, (11, 3000, True, refused[codec]))
@@ -310,12 +314,12 @@ def test_default_limits_of_what_is_open(more: int) -> None:
     receiver = AccessUnitReceiver(Codec.H264, AccessUnitConfig(window=1))
     pushes(receiver, 0, (1, 0, False, b"\x7c\x85" + bytes(4_000_000 + more)))
     pushes(receiver, 0, (2, 0, True, b"\x7c\x45\xff"))
-    assert [len(unit.data) for unit in receiver.units(0)] == [(1 - more) * 4_000_006]
+    assert [len(unit.data) for unit in receiver.units(0)] == [4_000_006][more:]
     assert receiver.counts().units_given_up == more
     receiver = AccessUnitReceiver(Codec.H264, AccessUnitConfig(window=1))
     pushes(receiver, 0, (1, 0, False, b"\x61" + bytes(8_000_000 - 5 + more)))
     receiver.finish()
-    assert [len(unit.data) for unit in receiver.units(0)] == [(1 - more) * 8_000_000]
+    assert [len(unit.data) for unit in receiver.units(0)] == [8_000_000][more:]
     assert receiver.counts().texts_given_up == more
 
 
@@ -334,8 +338,8 @@ def test_settings_of_nothing() -> None:
     pushes(receiver, 0, (1001, 3000, False, slice_))
     gives(receiver, 0)
     pushes(receiver, 0, (1002, 3000, True, FRAGMENTS[Codec.H264].start))
-    gives(receiver, 0, one(Codec.H264, 3000, 1001, key, data=b"", is_keyframe=None, last=1002))
-    assert receiver.counts() == Counts(taken=3, units=2, units_given_up=1, texts_given_up=1)
+    gives(receiver, 0)
+    assert receiver.counts() == Counts(taken=3, units=1, units_given_up=1, texts_given_up=1)
 
 
 def test_refused_settings() -> None:

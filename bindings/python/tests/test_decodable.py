@@ -149,9 +149,9 @@ def test_a_first_number_that_is_told(codec: Codec) -> None:
     assert receiver.missing() == [65535, 0] and receiver.deadline() == 207
     gives(receiver, 206)
     pushes(receiver, 7, (65534, 0, True, kinds.slice), LATE, 1)
-    pushes(receiver, 7, (65535, 3000, False, kinds.slice))
-    pushes(receiver, 7, (0, 3000, False, kinds.key))
-    units = [kinds.slice, kinds.key, kinds.second]
+    units = [kinds.sets[-1], kinds.slice, kinds.second]
+    pushes(receiver, 7, (65535, 3000, False, units[0]))
+    pushes(receiver, 7, (0, 3000, False, units[1]))
     gives(receiver, 7, several(codec, 3000, 65535, units, is_whole=True))
     # Packets came.
     assert receiver.begin_at(2) is False
@@ -196,10 +196,12 @@ def test_parameter_sets_that_come_with_and_before_keyframes(codec: Codec) -> Non
     # A sender that marks them, and sends keyframes without.
     receiver.restart()
     n = comes(receiver, 0, 20, 0, kinds.sets)
-    gives(receiver, 0, several(codec, 0, 20, kinds.sets, **WHOLE))
+    gives(receiver, 0)
+    before = [several(codec, 0, 20, kinds.sets, **WHOLE)]
     for number in (n, n + 1):
         comes(receiver, 0, number, number, [kinds.key])
-        gives(receiver, 0, one(codec, number, number, kinds.key, **CLEAN))
+        gives(receiver, 0, *before, one(codec, number, number, kinds.key, **CLEAN))
+        before = []
     # A keyframe that came from its second slice on is none to begin with.
     receiver.restart()
     comes(receiver, 0, 10, 0, [*kinds.sets, kinds.second])
@@ -383,7 +385,7 @@ def test_whole_by_the_first_unit(codec: Codec) -> None:
         ([kinds.delimiter, slice_], WHOLE, WHOLE),
         ([kinds.delimiter, *kinds.keyframe], CLEAN, CLEAN),
         (kinds.keyframe, CLEAN, START),
-        ([slice_, slice_], {}, {}),
+        ([slice_, kinds.second], {}, {}),
         ([pps, slice_], {}, {}),
         ([sps, slice_], {} if codec is Codec.H265 else WHOLE, {}),
     ]
@@ -417,16 +419,10 @@ def test_a_marker_before_missing_numbers(codec: Codec) -> None:
     """What has the same timestamp behind them isn't known to go on with it."""
     receiver, kinds = AccessUnitReceiver(codec, AT_ONCE), KINDS[codec]
     comes(receiver, 0, 10, 0, kinds.keyframe)
-    n = 10 + len(kinds.keyframe)
+    n = 11 + len(kinds.keyframe)
     comes(receiver, 0, n, 0, [kinds.second])
-    comes(receiver, 0, n + 2, 0, [kinds.second])
-    gives(
-        receiver,
-        0,
-        several(codec, 0, 10, kinds.keyframe, **CLEAN),
-        one(codec, 0, n, kinds.second, continues=True, **START),
-        one(codec, 0, n + 2, kinds.second, missing=1),
-    )
+    keyframe = several(codec, 0, 10, kinds.keyframe, **CLEAN)
+    gives(receiver, 0, keyframe, one(codec, 0, n, kinds.second, missing=1))
 
 
 def test_a_stream_that_begins_anew(codec: Codec) -> None:
@@ -458,7 +454,7 @@ def test_units_behind_lengths(codec: Codec, donl: bool) -> None:
     receiver, kinds = AccessUnitReceiver(codec, AT_ONCE, avc=True, donl=donl), KINDS[codec]
     n, key = 10, [kinds.delimiter, *kinds.keyframe, kinds.second]
     cases: List[Any] = [
-        ([kinds.second, kinds.key], {}),
+        ([kinds.second, kinds.second], {}),
         (key, CLEAN),
         ([kinds.disposable], {"is_disposable": True, **CLEAN}),
     ]

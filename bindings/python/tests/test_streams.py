@@ -2,7 +2,7 @@
 
 import random
 from dataclasses import replace
-from typing import Dict, List, NamedTuple, Sequence, Set, Tuple
+from typing import Dict, List, NamedTuple, Optional, Sequence, Set, Tuple
 
 import pytest
 from digits import FRAGMENTS
@@ -205,20 +205,13 @@ class SentUnit(NamedTuple):
 
 
 def sent_units(codec: Codec, mtu: int) -> Tuple[List[bytes], List[SentUnit]]:
-    """The packets of a stream, and its access units, each of two slices with what is before them, or of one
-    where parameter sets are behind that."""
+    """The packets of a stream, and its access units."""
     packets: List[bytes] = []
     found: List[SentUnit] = []
-    pairs: List[List[bytes]] = []
-    for part in access_units(codec):
-        has_sets = "sps" in (role_of(codec, unit) for unit in split(codec, part))
-        if has_sets or not pairs or len(pairs[-1]) == 2:
-            pairs.append([])
-        pairs[-1].append(part)
     with Packetizer(codec) as packetizer:
-        for pair in pairs:
+        for part in access_units(codec):
             first = len(packets)
-            packets += packetizer.packetize(mtu, b"".join(pair))
+            packets += packetizer.packetize(mtu, part)
             moved = [
                 Placed(one.first + first, one.last + first, one.unit)
                 for one in placed(codec, packets[first:])
@@ -295,14 +288,15 @@ def left(codec: Codec, found: Sequence[SentUnit], came: Set[int], first: int) ->
     """The access units that must be given out where these packets came, computed from these alone: of
     each what its units are of which each packet came, and what a decoder can do with these."""
     given: List[AccessUnit] = []
-    before, decoder = -1, Decoder(codec)
+    before: Optional[int] = None
+    carried, decoder = 0, Decoder(codec)
     for n, sent_unit in enumerate(found):
         numbers = range(sent_unit.first, sent_unit.last + 1)
         there = [number for number in numbers if number in came]
         if not there:
             continue
-        follows = given != [] and there[0] - 1 == before
-        before = there[0] - 1 if not given else before
+        follows = there[0] - 1 == before
+        before = there[0] - 1 if before is None else before
         units_ = [
             one.unit
             for one in sent_unit.units
@@ -314,21 +308,26 @@ def left(codec: Codec, found: Sequence[SentUnit], came: Set[int], first: int) ->
         )
         is_keyframe = any(is_key(codec, unit) for unit in units_)
         is_whole, is_clean, is_disposable = decoder.takes(units_, follows, is_unbroken)
+        carried += there[-1] - before - len(there)
+        before = there[-1]
+        # What is missing of one without bytes is told with the next one.
+        if not units_:
+            continue
         given.append(
             AccessUnit(
                 timestamp=timestamp_of(n),
                 data=annex_b(units_),
-                is_keyframe=is_keyframe if units_ else None,
+                is_keyframe=is_keyframe,
                 is_whole=is_whole,
                 is_clean=is_clean,
                 is_disposable=is_disposable,
                 continues=False,
                 first=first + there[0] & 65535,
                 last=first + there[-1] & 65535,
-                missing=there[-1] - before - len(there),
+                missing=carried,
             )
         )
-        before = there[-1]
+        carried = 0
     return given
 
 

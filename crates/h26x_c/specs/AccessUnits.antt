@@ -51,6 +51,9 @@ counts_told counts = record {
   whole = counts.whole;
   units_given_up = counts.units_given_up;
   texts_given_up = counts.texts_given_up;
+  no_unit = counts.no_unit;
+  still = counts.still;
+  unbelieved = counts.unbelieved;
 }
 
 -- the code and what is told say what came of a call for the next access unit, and that came of it

@@ -56,6 +56,9 @@ pub struct Counts {
     pub whole: u64,
     pub units_given_up: u64,
     pub texts_given_up: u64,
+    pub no_unit: u64,
+    pub still: u64,
+    pub unbelieved: u64,
 }
 
 /// The settings of a receiver.
@@ -91,6 +94,9 @@ fn counts_told(counts: h26x_access_units::Counts) -> Counts
         whole: counts.whole,
         units_given_up: counts.units_given_up,
         texts_given_up: counts.texts_given_up,
+        no_unit: counts.no_unit,
+        still: counts.still,
+        unbelieved: counts.unbelieved,
     }
 }
 

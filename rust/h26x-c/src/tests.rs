@@ -176,8 +176,15 @@ fn structs_of_the_header() {
         (8, 80)
     );
     assert_eq!(
-        (offset_of!(Counts, texts_given_up), size_of::<Counts>()),
+        (
+            offset_of!(Counts, texts_given_up),
+            offset_of!(Counts, no_unit)
+        ),
         (88, 96)
+    );
+    assert_eq!(
+        (offset_of!(Counts, unbelieved), size_of::<Counts>()),
+        (112, 120)
     );
     assert_eq!(
         (

@@ -100,6 +100,9 @@ class UnitsCounts(Structure):
             "whole",
             "units_given_up",
             "texts_given_up",
+            "no_unit",
+            "still",
+            "unbelieved",
         )
     ]
 

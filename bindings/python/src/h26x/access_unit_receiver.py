@@ -120,7 +120,7 @@ class Counts:
     twice: int = 0
     #: Packets whose number was too far from the one that was due.
     stray: int = 0
-    #: Packets that were refused for what they are.
+    #: Packets that were refused for what they are, but for those of no_unit.
     refused: int = 0
     #: Numbers that came and bear nothing.
     skipped: int = 0
@@ -134,6 +134,13 @@ class Counts:
     units_given_up: int = 0
     #: Texts of open access units that were longer than their limit.
     texts_given_up: int = 0
+    #: Packets refused that bear nothing to be written, so that nothing is lost by them: a STAP-B, MTAP,
+    #: FU-B or PACSI, and an end of sequence or bitstream of two bytes.
+    no_unit: int = 0
+    #: Access units that began, by their units, at the timestamp of the one before.
+    still: int = 0
+    #: Markers that weren't believed: no slice of their access unit had come, or the sender marks each slice.
+    unbelieved: int = 0
 
 
 class AccessUnitReceiver(Owner):
@@ -227,7 +234,8 @@ class AccessUnitReceiver(Owner):
 
     def next(self, now: int) -> Optional[AccessUnit]:
         """The next access unit, if one has ended at this tick; else None. Call it until there is none.
-        Packets that are refused are passed over, and counted.
+        Packets that are refused are passed over, and counted. One without bytes isn't given out: what is
+        missing of it is told with the next one.
 
         Raises OutOfMemory, of which nothing is lost: the call can be made again.
         """
