@@ -27,7 +27,7 @@ uint8_t memory[ROOM + 64];
 struct Totals {
     uint64_t packets = 0, networks = 0, refused_settings = 0, pushed[6] = {}, bytes = 0;
     uint64_t no_room = 0, clean = 0, continues = 0, keyframes = 0, missing = 0, deadlines = 0;
-    uint64_t disposable = 0, clean_by_sets = 0, whole_by_front = 0, clean_behind_damage = 0, begun[2] = {};
+    uint64_t disposable = 0, clean_by_sets = 0, whole_by_front = 0, clean_behind_damage = 0, bare = 0, begun[2] = {};
     h26x_access_units_counts counts{};
 };
 
@@ -54,6 +54,7 @@ public:
         for (size_t i = 0; i < sizeof all / sizeof *all; i++)
             sums[i] += all[i];
         memcpy(&totals.counts, sums, sizeof sums);
+        totals.bare += model.bare;
         h26x_access_units_close(&u);
     }
 
@@ -317,6 +318,10 @@ const char *never(const Totals &t)
         {t.counts.units - t.counts.whole, "not whole"},
         {t.counts.units_given_up, "a unit given up"},
         {t.counts.texts_given_up, "a text given up"},
+        {t.counts.no_unit, "a packet that bears no unit"},
+        {t.counts.still, "an access unit at the timestamp of the one before"},
+        {t.counts.unbelieved, "a marker that isn't believed"},
+        {t.bare, "an access unit without bytes"},
     };
     for (const auto &it : all)
         if (it.count == 0)

@@ -12,6 +12,7 @@
 #include <map>
 #include <optional>
 #include <string>
+#include <utility>
 #include <vector>
 
 namespace model {
@@ -156,6 +157,22 @@ inline Read read_h266(const Bytes &packet, bool numbers)
     return read_single(packet, numbers);
 }
 
+// Whether a packet that is refused bears nothing that is to be written: its type carries no unit of this stream (RFC 6184,
+// 5.2: a STAP-B, an MTAP, an FU-B, and those that are reserved, as a PACSI of RFC 6190 is there), or it is an end of
+// sequence or of the bitstream, which is a header and nothing behind it (H.265, table 7-1; H.266, table 5), or DONL.
+inline bool bears_no_unit(const h26x_access_units_config &config, const Bytes &packet)
+{
+    const unsigned first = byte(packet, 0), second = packet.size() < 2 ? 0 : byte(packet, 1);
+    if (config.codec == H26X_H264) {
+        const unsigned type = first & 31;
+        return type == 0 || (type > 23 && type != 24 && type != 28);
+    }
+    if (packet.size() > 2 && (first >= 0x80 || !config.numbers || packet.size() > 4))
+        return false;
+    const unsigned type = config.codec == H26X_H265 ? first >> 1 & 63 : second >> 3;
+    return config.codec == H26X_H265 ? type == 36 || type == 37 : type == 21 || type == 22;
+}
+
 inline Read read(const h26x_access_units_config &config, const Bytes &packet)
 {
     return config.codec == H26X_H264 ? read_h264(packet)
@@ -198,9 +215,10 @@ inline Bytes text_of(bool avc, const std::vector<Bytes> &units)
 
 // What a unit tells of its access unit, by the tables and headers of the video standards: H.264 7.3.1 to 7.3.3, H.265
 // 7.3.1.2, 7.3.2.2 and 7.3.6.1, H.266 7.3.1.2, 7.3.2.8 and 7.3.7. A unit of another layer, or without a whole header,
-// tells nothing.
+// tells nothing. What stands before slices: H.264 7.4.1.2.3, H.265 7.4.2.4.4, H.266 7.4.2.4.3.
 struct Told {
     bool is_delimiter = false, is_vps = false, is_sps = false, is_pps = false;
+    bool is_prefix = false;               // another that stands before the slices of an access unit, as SEI does
     unsigned layers = 0;                  // temporal ones, as an SPS of H.265 has them
     std::optional<bool> is_non_reference; // as a picture header of H.266 has it
     bool is_slice = false, is_first = false, is_key = false;
@@ -215,6 +233,7 @@ inline Told told_h264(const Bytes &unit)
     it.is_sps = type == 7;
     it.is_pps = type == 8;
     it.is_delimiter = type == 9;
+    it.is_prefix = type == 6 || (type >= 14 && type <= 18);
     it.is_key = type == 5;
     it.is_slice = it.is_key || type == 1 || type == 2;
     it.is_first = unit.size() > 1 && byte(unit, 1) >= 0x80; // first_mb_in_slice 0 is the bit 1
@@ -232,6 +251,7 @@ inline Told told_h265(const Bytes &unit)
     it.is_sps = type == 33;
     it.is_pps = type == 34;
     it.is_delimiter = type == 35;
+    it.is_prefix = type == 39 || (type >= 41 && type <= 44);
     it.layers = it.is_sps ? (behind >> 1 & 7) + 1 : 0;
     it.is_key = type >= 16 && type <= 21;
     it.is_slice = it.is_key || type <= 9;
@@ -251,6 +271,7 @@ inline Told told_h266(const Bytes &unit)
     it.is_sps = type == 15;
     it.is_pps = type == 16;
     it.is_delimiter = type == 20;
+    it.is_prefix = type == 12 || type == 13 || type == 17 || type == 23 || type == 26;
     if (type == 19)
         it.is_non_reference = (behind & 0x40) != 0;
     it.is_key = type >= 7 && type <= 9;
@@ -265,6 +286,33 @@ inline Told told_of(uint32_t codec, const Bytes &unit)
     if (codec == H26X_H264 ? unit.empty() : unit.size() < 2 || (unit[1] & 7) == 0)
         return {};
     return codec == H26X_H264 ? told_h264(unit) : codec == H26X_H265 ? told_h265(unit) : told_h266(unit);
+}
+
+// Whether a unit behind a slice begins an access unit.
+inline bool begins_behind_slice(const Told &unit)
+{
+    return unit.is_delimiter || unit.is_vps || unit.is_sps || unit.is_pps || unit.is_prefix || unit.is_non_reference
+        || (unit.is_slice && unit.is_first);
+}
+
+// What a packet shows: whether it bears something of a slice, and the first unit that it begins.
+struct Shown {
+    bool has_slice = false;
+    std::optional<Told> first;
+};
+
+inline Shown shown_by(uint32_t codec, const Reading &reading)
+{
+    Shown it;
+    for (const Bytes &unit : reading.units)
+        it.has_slice = it.has_slice || told_of(codec, unit).is_slice;
+    if (reading.is_fragment)
+        it.has_slice = told_of(codec, reading.header).is_slice;
+    if (reading.is_fragment && reading.is_start)
+        it.first = told_of(codec, reading.header + reading.data);
+    else if (!reading.units.empty())
+        it.first = told_of(codec, reading.units.front());
+    return it;
 }
 
 // The units of a text, as its reader finds them: 64 at most.
@@ -376,6 +424,9 @@ struct AccessUnit {
     bool continues = false;
     bool is_first = false;  // no packet was taken before, and the number of the first isn't told
     bool is_broken = false; // numbers are missing in it or right behind it, or a run is open at its end
+    bool has_slice = false; // something of one came
+    bool is_still = false;  // it began, by its units, at the timestamp of the one that ended right before it
+    uint32_t carried = 0;   // numbers missing of those before it that have no bytes
     std::vector<Taken> packets;
 };
 
@@ -408,6 +459,7 @@ inline Given ended_unit(const h26x_access_units_config &config, const AccessUnit
     it.told.continues = unit.continues;
     it.follows = !unit.is_first && unit.packets.front().missing == 0;
     it.is_unbroken = !unit.is_broken;
+    it.told.missing = unit.carried;
     std::vector<Bytes> units;
     for (const Taken &packet : unit.packets) {
         it.told.missing += packet.missing;
@@ -431,7 +483,7 @@ struct History {
     uint32_t codec;
     bool has_sets; // the decoder has them
     std::vector<Given> all;
-    bool has_begun = false; // one was given out before
+    bool has_begun = false; // one ended before
 
     // The first slice, if there is one, as its picture's header has it, which may stand before it.
     std::optional<Told> slice(size_t place) const
@@ -602,7 +654,10 @@ struct Stream {
     bool has_begun = false;           // a packet was taken, or the number of the first is told
     bool is_gap = false;              // numbers are missing before those that were skipped since the last packet
     uint32_t skipped_gap = 0;         // so many
-    std::optional<uint32_t> marked;   // the timestamp of the last packet, where it bore the marker
+    std::optional<uint32_t> marked;   // the timestamp of the access unit that ended by itself right before
+    bool is_marked = false;           // a marker was believed
+    bool marks_slices = false;        // the sender marks each slice, so that no marker is believed
+    uint32_t carried = 0;             // numbers missing of access units without bytes, before the next one begins
     Fragments fragments;              // those taken since a run was given up
     std::optional<AccessUnit> open;
     std::deque<Given> ended;
@@ -630,7 +685,7 @@ public:
         behind = 0;
         if (is_far(packet.number))
             return push_far(now, packet);
-        if (is_taken_at_once(packet.number)) {
+        if (is_taken_at_once(packet)) {
             waiting.due = *waiting.due + 1;
             waiting.has_begun = true;
             take(packet);
@@ -702,6 +757,7 @@ public:
     }
 
     h26x_access_units_counts counts{};
+    uint64_t bare = 0; // access units that ended and have no bytes
 
 private:
     h26x_access_units_config config;
@@ -737,10 +793,10 @@ private:
 
     // It is the next one, and nothing is before it: neither a packet that waits or is missing, nor an access unit that
     // ended or is to.
-    bool is_taken_at_once(uint16_t number) const
+    bool is_taken_at_once(const Packet &packet) const
     {
-        return waiting.packets.empty() && waiting.due && waiting.place_of(number) == *waiting.due
-            && !is_behind_missing(number) && stream.ended.empty() && !is_anew;
+        return waiting.packets.empty() && waiting.due && waiting.place_of(packet.number) == *waiting.due
+            && !is_behind_missing(packet.number) && !ends_by_units(packet) && stream.ended.empty() && !is_anew;
     }
 
     uint32_t push_far(uint32_t now, const Packet &packet)
@@ -774,20 +830,18 @@ private:
     // The next access unit that has ended, if one has at this tick.
     std::optional<Given> given(uint32_t now)
     {
+        drop_bare();
         if (stream.ended.empty() && is_anew) {
             is_anew = false;
             end_stream();
         }
-        while (stream.ended.empty() && is_due(now)) {
-            if (begins_behind_missing(waiting.packets.begin()->second))
-                end_behind_missing(waiting.packets.begin()->second.number);
-            else
-                take(waiting.take_first());
-        }
+        for (drop_bare(); stream.ended.empty() && is_due(now); drop_bare())
+            step();
         if (stream.ended.empty() && waiting.is_over) {
             waiting = {};
             stray.reset();
             end_stream();
+            drop_bare();
         }
         if (stream.ended.empty())
             return std::nullopt;
@@ -797,6 +851,33 @@ private:
         counts.units++;
         counts.whole += it.told.is_whole;
         return it;
+    }
+
+    // The access unit that is open ends before the packet that is due, or that packet is taken.
+    void step()
+    {
+        const Packet &packet = waiting.packets.begin()->second;
+        const bool ends = ends_by_units(packet);
+        if (begins_behind_missing(packet) || (ends && is_behind_missing(packet.number)))
+            end_behind_missing(packet.number);
+        else if (ends)
+            end_by_itself(true);
+        else
+            take(waiting.take_first());
+    }
+
+    // Access units without bytes aren't given out: what is missing of them is told with the next one.
+    void drop_bare()
+    {
+        while (!stream.ended.empty() && stream.ended.front().bytes.empty()) {
+            Given it = std::move(stream.ended.front());
+            stream.ended.pop_front();
+            history.append(it);
+            bare++;
+            (!stream.ended.empty() ? stream.ended.front().told.missing
+                 : stream.open     ? stream.open->carried
+                                   : stream.carried) += it.told.missing;
+        }
     }
 
     void end_unit(bool is_known)
@@ -812,6 +893,27 @@ private:
     {
         const bool is_of_open = stream.open && stream.open->timestamp == packet.timestamp;
         return !packet.payload.empty() && !is_of_open && is_behind_missing(packet.number);
+    }
+
+    // It has the timestamp of the access unit that is open, of which a slice came, and begins with what stands before the
+    // slices of another. It isn't asked where a marker was believed, no longer stands for a slice, and that access unit
+    // has another timestamp than the one before.
+    bool ends_by_units(const Packet &packet) const
+    {
+        if (packet.payload.empty() || !stream.open || stream.open->timestamp != packet.timestamp)
+            return false;
+        if (!stream.open->has_slice || (stream.is_marked && !stream.marks_slices && !stream.open->is_still))
+            return false;
+        const Read reading = read(config, packet.payload);
+        const std::optional<Told> first = reading ? shown_by(config.codec, *reading).first : std::nullopt;
+        return first && begins_behind_slice(*first);
+    }
+
+    // What is open ends by a marker, or by what its units are.
+    void end_by_itself(bool is_known)
+    {
+        stream.marked = stream.open->timestamp;
+        end_unit(is_known);
     }
 
     // What is open ends, not known to be whole. What comes then is judged from its first packet on.
@@ -838,7 +940,7 @@ private:
         stream.ended = std::move(ended);
     }
 
-    // A packet that was due: it bears nothing, is refused, and then missing itself, or is taken.
+    // A packet that was due: it bears nothing, is refused, and then missing itself unless it bears no unit, or is taken.
     void take(const Packet &packet)
     {
         if (!stream.expected && !packet.payload.empty())
@@ -849,15 +951,24 @@ private:
         if (packet.payload.empty()) {
             counts.skipped++;
             pass_over(packet.number, missing, !is_expected);
-        } else if (Read reading = read(config, packet.payload); !reading) {
-            counts.refused++;
-            pass_over(packet.number, missing + 1u, true);
-        } else {
+        } else if (Read reading = read(config, packet.payload); reading) {
             counts.taken++;
             counts.lost += missing;
             take_reading(packet, std::move(*reading), is_expected && !stream.is_gap, missing);
+        } else if (bears_no_unit(config, packet.payload)) {
+            counts.no_unit++;
+            const bool is_of_open = stream.open && stream.open->timestamp == packet.timestamp;
+            if (is_of_open && is_expected && believes(packet.marker, stream.open->has_slice))
+                end_by_itself(!stream.is_gap);
+            pass_over(packet.number, missing, !is_expected);
+        } else {
+            counts.refused++;
+            pass_over(packet.number, missing + 1u, true);
         }
     }
+
+    // Whether a marker ends an access unit of which a slice came or not.
+    bool believes(bool marker, bool has_slice) const { return marker && has_slice && !stream.marks_slices; }
 
     // A number that bears nothing, and up to which so many are missing.
     void pass_over(uint16_t number, uint32_t missing, bool is_gap)
@@ -879,13 +990,23 @@ private:
             end_unit(follows);
         if (!follows)
             stream.fragments.clear();
+        const Shown shown = shown_by(config.codec, reading);
+        const bool is_behind_its_own = stream.marked == packet.timestamp;
+        if (is_behind_its_own && shown.first && shown.first->is_slice && !shown.first->is_first)
+            stream.marks_slices = true;
         if (!stream.open) {
             stream.fragments.clear();
             stream.open.emplace();
             stream.open->timestamp = packet.timestamp;
-            stream.open->continues = stream.marked == packet.timestamp;
+            stream.open->is_still = is_behind_its_own && shown.first && begins_behind_slice(*shown.first);
+            stream.open->continues = is_behind_its_own && !stream.open->is_still;
             stream.open->is_first = !stream.has_begun;
+            stream.open->carried = std::exchange(stream.carried, 0);
+            counts.still += stream.open->is_still;
         }
+        stream.open->has_slice = stream.open->has_slice || shown.has_slice;
+        const bool ends = believes(packet.marker, stream.open->has_slice);
+        counts.unbelieved += packet.marker && !ends;
         Taken taken{packet.number, stream.skipped_gap + missing, follows, false, std::move(reading.units)};
         if (reading.is_fragment) {
             if (reading.is_start && is_run_open(stream.fragments))
@@ -907,9 +1028,9 @@ private:
         stream.is_gap = false;
         stream.skipped_gap = 0;
         stream.marked.reset();
-        if (packet.marker) {
-            stream.marked = packet.timestamp;
-            end_unit(true);
+        if (ends) {
+            stream.is_marked = true;
+            end_by_itself(true);
         } else if (text_len(*stream.open) > config.unit_limit) {
             stream.open->packets.back().is_text_given_up = true;
             counts.texts_given_up++;

@@ -221,12 +221,25 @@ inline Packets packetized(Random &r, h26x_packetizer *p, uint32_t codec)
     return packets;
 }
 
-// What streams of a codec are drawn from: access units of both packetizers, and packets that nobody should send.
+// Packets that bear no unit of a stream, as senders send them: of H.264 a STAP-B, an FU-B and a PACSI, else an end of
+// sequence and one of the bitstream, with DONL where packets bear it.
+inline Packets without_units(uint32_t codec, bool numbers)
+{
+    const Bytes behind(numbers ? 2 : 0, 7);
+    if (codec == H26X_H264)
+        return {Bytes("\x79\0\1\0\2\x65\x88", 7), Bytes("\x7d\x85\0\1\x88", 5), Bytes("\x7e\x86\x10\x2c", 4)};
+    if (codec == H26X_H265)
+        return {Bytes("\x48\1", 2) + behind, Bytes("\x4a\1", 2) + behind};
+    return {Bytes("\0\xa9", 2) + behind, Bytes("\0\xb1", 2) + behind};
+}
+
+// What streams of a codec are drawn from: access units of both packetizers, packets that bear no unit, and those that
+// nobody should send.
 struct Pool {
     uint32_t codec;
     bool numbers;
     std::vector<Packets> units;
-    Packets hostile;
+    Packets hostile, without;
 
     void renew(Random &r, h26x_packetizer *p, size_t place)
     {
@@ -261,7 +274,8 @@ struct Pools {
     explicit Pools(Random &r)
     {
         for (uint32_t i = 0; i < 5; i++) {
-            Pool pool{H26X_H264 + (i + 1) / 2, i == 2 || i == 4, {}, {}};
+            Pool pool{H26X_H264 + (i + 1) / 2, i == 2 || i == 4, {}, {}, {}};
+            pool.without = without_units(pool.codec, pool.numbers);
             pool.units.assign(2 * IN_POOL, Packets{Bytes("\x01\x02\x03", 3)});
             pool.hostile.resize(IN_POOL);
             packetizers.emplace_back();
@@ -372,8 +386,8 @@ private:
     uint32_t sent = 0, burst = 0, now = 0, timestamp = 0;
     uint16_t number = 0;
     // how this sender sends, what the network does, and how its receiver calls
-    const uint32_t markers = r.below(5), steps = r.below(4), rare = r.of({30u, 200u, 2000u});
-    const uint32_t padding = r.of({0u, 0u, 4u, 30u}), hostile = r.of({0u, 0u, 6u, 40u});
+    const uint32_t markers = r.below(6), steps = r.below(4), rare = r.of({30u, 200u, 2000u});
+    const uint32_t padding = r.of({0u, 0u, 4u, 30u}), hostile = r.of({0u, 0u, 6u, 40u}), without = r.of({0u, 0u, 5u});
     const uint32_t loss = r.of({0u, 3u, 10u, 100u}), bursts = r.of({0u, 0u, 50u});
     const uint32_t twice = r.of({0u, 0u, 5u, 50u}), swaps = r.of({0u, 2u, 10u}), depth = r.of({3u, 6u, 20u, 200u});
     const uint32_t again = r.of({0u, 2u}), lateness = r.of({3u, 20u, 250u});
@@ -441,11 +455,22 @@ private:
             send(r.one_in(2) ? nullptr : &nothing, r.one_in(2) ? timestamp : r.below(9), r.one_in(4));
         if (r.one_in(hostile))
             send(&r.in(pool.hostile), timestamp, r.one_in(6));
+        if (r.one_in(without))
+            send(&r.in(pool.without), timestamp, r.one_in(6));
     }
 
-    bool marks(bool is_last)
+    // Whether no fragment of its unit follows.
+    bool ends_unit(const Bytes &packet) const
+    {
+        const model::Read reading = model::read(it.config, packet);
+        return !reading || !reading->is_fragment || reading->is_end;
+    }
+
+    bool marks(const Bytes &packet, bool is_last)
     {
         switch (markers) {
+        case 3: // parameter sets and slices each
+            return ends_unit(packet);
         case 0:
             return false;
         case 1:
@@ -460,10 +485,13 @@ private:
     void send_unit()
     {
         const Packets &packets = r.in(pool.units);
+        const bool ends = r.one_in(without); // the marker stands on what follows the last one
         for (size_t i = 0; i < packets.size(); i++) {
             send_between();
-            send(&packets[i], timestamp, marks(i + 1 == packets.size()));
+            send(&packets[i], timestamp, !ends && marks(packets[i], i + 1 == packets.size()));
         }
+        if (ends)
+            send(&r.in(pool.without), timestamp, marks(pool.without.front(), true));
         if (steps == 0 ? r.one_in(40) : steps == 1 ? r.one_in(2) : true)
             timestamp += steps == 3 ? r.below(3) : 3000;
     }
