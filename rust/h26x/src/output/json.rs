@@ -150,6 +150,7 @@ pub fn totals(tally: &Tally, told: &[String]) -> Value {
             "clean": tally.clean,
             "lost": tally.missing(),
             "refused": tally.refused,
+            "no_unit": tally.no_unit,
             "late": tally.late,
             "twice": tally.twice,
             "recovered": tally.recovered,

@@ -12,13 +12,11 @@ const TELLING: u64 = 16;
 #[derive(Default)]
 pub struct Diagnoses {
     packets: u64,
-    /// The timestamp of the packet before, and whether that had the marker.
-    before: Option<(u32, bool)>,
-    /// How many packets have another timestamp than the one before.
-    changes: u64,
     markers: u64,
-    /// How many packets follow a marker and have its timestamp.
-    behind_markers: u64,
+    /// What the receiver counts: access units that began, by their units, at the timestamp of the one before; and markers
+    /// that it doesn't believe.
+    pub still: u64,
+    pub unbelieved: u64,
     slices: u64,
     keyframes: u64,
     sets: u64,
@@ -30,11 +28,6 @@ impl Diagnoses {
         let rtp = &packet.rtp;
         self.packets += 1;
         self.markers += u64::from(rtp.marker);
-        if let Some((timestamp, marker)) = self.before.replace((rtp.timestamp, rtp.marker)) {
-            let is_same = timestamp == rtp.timestamp;
-            self.changes += u64::from(!is_same);
-            self.behind_markers += u64::from(is_same && marker);
-        }
         each_type(codec, has_donl, rtp.payload, |it| {
             self.slices += u64::from(is_slice_type(codec, it));
             self.keyframes += u64::from(is_keyframe_type(codec, it));
@@ -42,14 +35,15 @@ impl Diagnoses {
         });
     }
 
-    /// What is odd, a sentence each; `has_sets` tells that the parameter sets came another way.
-    pub fn told(&self, has_sets: bool) -> Vec<String> {
+    /// What is odd of a stream of so many access units, a sentence each; `has_sets` tells that the parameter sets came
+    /// another way.
+    pub fn told(&self, has_sets: bool, access_units: u64) -> Vec<String> {
         if self.packets < TELLING {
             return Vec::new();
         }
-        let stands = self.changes == 0;
-        let each_slice =
-            !stands && self.behind_markers > 0 && self.behind_markers * 4 >= self.markers;
+        // (of two fields of a picture the second may have the timestamp of the first)
+        let stands = self.still > 0 && self.still * 4 >= access_units * 3;
+        let each_slice = self.unbelieved > 0 && self.unbelieved * 4 >= self.markers;
         let odd = [
             (
                 stands,
@@ -61,7 +55,7 @@ impl Diagnoses {
             ),
             (
                 each_slice,
-                "markers stand on each slice: only the last packet of a picture may have one (RFC 6184, 5.1)",
+                "markers stand on each slice or set: only the last packet of a picture may have one (RFC 6184, 5.1)",
             ),
             (
                 self.sets == 0 && self.slices > 0 && !has_sets,

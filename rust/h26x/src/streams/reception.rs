@@ -10,7 +10,7 @@ use crate::errors::Failure;
 use crate::streams::numbers::Numbers;
 use crate::streams::payload::fragment;
 use crate::streams::payload_types::PayloadTypes;
-use crate::streams::refusals::reason;
+use crate::streams::refusals::{bears_no_unit, reason};
 use crate::streams::runs::{Left, Runs};
 use crate::streams::sets::are_enough;
 use crate::streams::tally::Tally;
@@ -26,10 +26,10 @@ use std::collections::HashSet;
 const FAR: u16 = 3000;
 /// So many late packets in a row are a sender's that began anew.
 const MOST_LATE: u16 = 64;
-/// An access unit that is longer is given out in parts.
+/// An access unit that is longer ends behind a unit.
 const LONGEST_UNIT: usize = 1 << 25;
-/// What no codec takes: given in the place of a packet of which the capture has only a front.
-const CUT: [u8; 1] = [0];
+/// What no codec takes, and misses: given in the place of a packet of which the capture has only a front.
+const CUT: [u8; 1] = [28];
 
 /// What the receiver is given of a packet.
 #[derive(Clone, Copy, PartialEq, Eq)]
@@ -160,9 +160,19 @@ impl Reception {
             }
             _ => {
                 self.late.0 = 0;
-                self.take_held(packet, tell)
+                self.take_held(packet, tell)?;
+                self.end_long(packet, tell)
             }
         }
+    }
+
+    /// Ends an access unit that is too long, where no unit goes on. Any number is the next then.
+    fn end_long(&mut self, packet: &Captured<'_>, tell: &mut Tell<'_>) -> Outcome {
+        if self.unit_len <= LONGEST_UNIT || !self.ends_unit(packet.rtp.payload) {
+            return Ok(());
+        }
+        self.receiver.finish();
+        self.drain(tell)
     }
 
     fn kind(&self, packet: &Captured<'_>) -> Kind {
@@ -191,16 +201,15 @@ impl Reception {
         let packet = RtpPacket {
             sequence: rtp.sequence,
             timestamp: rtp.timestamp,
-            marker: self.is_end(rtp.marker, payload),
+            marker: rtp.marker && self.ends_unit(payload),
             payload,
         };
         self.receiver.push(now, &packet).map_err(no_memory)
     }
 
-    /// Whether a packet ends an access unit: none does whose unit goes on.
-    fn is_end(&self, marker: bool, payload: &[u8]) -> bool {
-        (marker || self.unit_len > LONGEST_UNIT)
-            && fragment(self.codec, payload).is_none_or(|it| it.is_last)
+    /// Whether no unit of a packet goes on behind it: else it ends no access unit.
+    fn ends_unit(&self, payload: &[u8]) -> bool {
+        fragment(self.codec, payload).is_none_or(|it| it.is_last)
     }
 
     /// The receiver's time, in milliseconds. A capture's may go back, and that one doesn't.
@@ -227,7 +236,7 @@ impl Reception {
         let mut step = self.step()?;
         if step.passed == 0 {
             self.waiting.put(packet, due);
-            // An access unit may have ended before it, behind numbers that are missing.
+            // An access unit may have ended before it, behind numbers that are missing or by its units.
             return match self.end_step(step, tell)? {
                 true => self.drain(tell),
                 false => Ok(()),
@@ -269,11 +278,12 @@ impl Reception {
     fn step(&mut self) -> Result<Step, Failure> {
         let unit = self.receiver.next(self.now()).map_err(no_memory)?;
         let counts = self.receiver.counts();
-        let passed = |it: &Counts| it.taken + it.refused + it.skipped;
+        let refused = |it: &Counts| it.refused + it.no_unit;
+        let passed = |it: &Counts| it.taken + refused(it) + it.skipped;
         let before = std::mem::replace(&mut self.counts, counts);
         Ok(Step {
             passed: passed(&counts) - passed(&before),
-            has_refused: counts.refused > before.refused,
+            has_refused: refused(&counts) > refused(&before),
             has_more: unit.is_some(),
             unit,
         })
@@ -358,10 +368,13 @@ impl Reception {
     }
 
     fn refused(&mut self, packet: &Captured<'_>, error: PacketError) -> Became {
+        let has_no_unit = bears_no_unit(self.codec, packet.rtp.payload, error);
         let reason = reason(self.codec, packet.rtp.payload, error);
         self.numbers.refuse(packet.rtp.payload);
-        self.runs.break_off();
-        self.tally.refuse(packet.rtp.sequence, &reason);
+        if !has_no_unit {
+            self.runs.break_off();
+        }
+        self.tally.refuse(packet.rtp.sequence, &reason, has_no_unit);
         Became::Refused(reason)
     }
 
@@ -471,15 +484,20 @@ impl Reception {
             units,
             units_given_up,
             texts_given_up,
+            no_unit,
+            still,
+            unbelieved,
             ..
         } = self.counts;
         let mut tally = self.tally;
-        debug_assert_eq!(refused, tally.refused + tally.parts);
+        debug_assert_eq!(refused + no_unit, tally.refused + tally.parts);
+        debug_assert_eq!(no_unit, tally.no_unit);
         debug_assert_eq!(units, tally.access_units);
         debug_assert_eq!(units_given_up, self.runs.too_long);
         debug_assert_eq!(texts_given_up, 0);
         (tally.given_up, tally.too_long) = (self.runs.given_up, self.runs.too_long);
         tally.advice = self.numbers.advice();
+        (tally.diagnoses.still, tally.diagnoses.unbelieved) = (still, unbelieved);
         Ok(tally)
     }
 }

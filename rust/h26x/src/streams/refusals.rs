@@ -3,6 +3,20 @@
 use emupedestal::access_units::unit_type;
 use emupedestal::{Codec, PacketError};
 
+/// Whether a refused packet bears nothing of the stream, so that nothing is lost by it: a type that carries no unit of it,
+/// or an end of sequence or of the bitstream.
+pub fn bears_no_unit(codec: Codec, packet: &[u8], error: PacketError) -> bool {
+    match error {
+        PacketError::NaluTypeIsNotHandled(_) => true,
+        PacketError::ErrShortPacket => match (codec, packet) {
+            (Codec::H265, [first, ..]) => matches!(first >> 1 & 0x3f, 36 | 37),
+            (Codec::H266, [_, second, ..]) => matches!(second >> 3, 21 | 22),
+            _ => false,
+        },
+        _ => false,
+    }
+}
+
 /// What a refused packet would have needed.
 pub fn reason(codec: Codec, packet: &[u8], error: PacketError) -> String {
     match error {

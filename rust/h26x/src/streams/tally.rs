@@ -50,6 +50,8 @@ pub struct Tally {
     /// The first gaps: how many packets before which number.
     first_gaps: Vec<(u32, u16)>,
     pub refused: u64,
+    /// Those of them that bear nothing of the stream.
+    pub no_unit: u64,
     /// The first kinds of refusals: why, how many, and the number of the first.
     reasons: Vec<(String, u64, u16)>,
 }
@@ -90,8 +92,9 @@ impl Tally {
         }
     }
 
-    pub fn refuse(&mut self, sequence: u16, reason: &str) {
+    pub fn refuse(&mut self, sequence: u16, reason: &str, has_no_unit: bool) {
         self.refused += 1;
+        self.no_unit += u64::from(has_no_unit);
         match self.reasons.iter().position(|it| it.0 == reason) {
             Some(known) => self.reasons[known].1 += 1,
             None if self.reasons.len() < NAMED => self.reasons.push((reason.into(), 1, sequence)),
@@ -110,15 +113,16 @@ impl Tally {
         100.0 * self.missing as f64 / sent.max(1) as f64
     }
 
-    /// Whether all packets came and were taken. Where more than half come twice or too late, some of
-    /// them came too late.
+    /// Whether all packets came and were taken, but for those that bear nothing. Where more than half come twice or too
+    /// late, some of them came too late.
     pub fn is_whole(&self) -> bool {
         let late = if self.late * 2 > self.packets {
             self.late
         } else {
             0
         };
-        let lost = self.missing + self.given_up + self.too_long + self.refused + late;
+        let refused = self.refused - self.no_unit;
+        let lost = self.missing + self.given_up + self.too_long + refused + late;
         lost + self.strays + self.parts == 0 && self.advice.is_none()
     }
 
@@ -148,7 +152,7 @@ impl Tally {
             .chain(counts)
             .chain(refusals)
             .chain(guise)
-            .chain(self.diagnoses.told(self.has_sets))
+            .chain(self.diagnoses.told(self.has_sets, self.access_units))
             .collect()
     }
 

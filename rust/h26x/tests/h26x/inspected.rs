@@ -59,11 +59,10 @@ fn packets_of_h264() {
             "   12     0.005000        3000 M     3  single      slice 3",
             "      = access unit of 12, 7 bytes: whole, clean",
             "   13     0.006000        6000 M     3  FU-A S      slice",
-            "      = access unit of 13, 0 bytes: not known to be whole",
             "1 unit: left out, for want of a packet",
             "2 access units: known to be whole",
             "2 access units: clean: nothing that a decoder needs is missing",
-            "7 packets of 33 bytes, 3 access units, 1 keyframe",
+            "7 packets of 33 bytes, 2 access units, 1 keyframe",
         ],
     );
 }
@@ -108,7 +107,7 @@ fn packets_of_h265_with_numbers() {
     let sent: [(u32, bool, &[u8]); 3] = [
         (0, false, &sets),
         (0, false, &[0x62, 1, 0x93, 0, 2, 0xaf]),
-        (0, true, &[0x02, 1, 0, 3, 0xd0, 9]),
+        (0, true, &[0x02, 1, 0, 3, 0x50, 9]),
     ];
     says(
         &packets(&sent),
@@ -330,6 +329,41 @@ fn refused_packets_are_not_lost() {
             "refused: 1 packet, the first is 6",
         ],
     );
+}
+
+/// Nothing is lost by an end of sequence of two bytes, by which its access unit ends, nor by a PACSI (RFC 6190, 4.9).
+#[test]
+fn packets_that_bear_no_unit() {
+    let h265: [(u32, bool, &[u8]); 4] = [
+        (
+            0,
+            false,
+            &[
+                0x60, 1, 0, 3, 0x40, 1, 0x0c, 0, 3, 0x42, 1, 1, 0, 3, 0x44, 1, 0xc1,
+            ],
+        ),
+        (0, false, &[0x26, 1, 0xac]),
+        (0, true, &[0x48, 1]),
+        (90, true, &[0x26, 1, 0xac]),
+    ];
+    let h264: [(u32, bool, &[u8]); 4] = [
+        (0, false, &[0x7e, 0x86, 0x10, 0x2c]),
+        (
+            0,
+            true,
+            &[
+                0x78, 0, 4, 0x67, 0x42, 0xc0, 0x1f, 0, 2, 0x68, 0xce, 0, 2, 0x65, 0x88,
+            ],
+        ),
+        (90, false, &[0x7e, 0x86, 0x10, 0x2c]),
+        (90, true, &[0x41, 0x9a, 1]),
+    ];
+    for (codec, sent) in [("h265", h265), ("h264", h264)] {
+        let folder = Folder::new();
+        folder.write("in.pcap", &pcap_with(&packets(&sent)));
+        let ran = folder.run(&["inspect", "in.pcap", "--codec", codec]);
+        ran.says(0, &["! refused: ", "2 access units: clean"]);
+    }
 }
 
 /// A PACI packet whose extension has 17 bytes, so that PHSsize takes its highest bit (RFC 7798, 4.4.4).

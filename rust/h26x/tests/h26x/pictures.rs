@@ -28,7 +28,7 @@ fn packets() -> Vec<Rtp> {
         Rtp::new(1, 90, true, &[0x7c, 0x45, 7]),
     ];
     packets.extend([2, 4, 5, 7, 6, 8, 8, 9, 10].map(slice));
-    packets[9].payload = vec![0x5e, 1];
+    packets[9].payload = vec![0x7c];
     packets
 }
 

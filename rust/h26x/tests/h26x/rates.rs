@@ -8,6 +8,7 @@ use std::process::Command;
 const SPS: &[u8] = &[0x67, 0x42, 0xc0, 0x1f];
 const IDR: &[u8] = &[0x65, 0x88, 1, 2];
 const SLICE: &[u8] = &[0x41, 0x9a, 1];
+const LATER: &[u8] = &[0x41, 0x42, 1];
 
 /// A capture in microseconds of packets at these.
 fn pcap_at(packets: &[(u32, Rtp)]) -> Vec<u8> {
@@ -120,6 +121,7 @@ fn pictures(change: impl Fn(u16, &mut Rtp)) -> Vec<Rtp> {
         let payload = match number {
             0 => SPS,
             1 => IDR,
+            _ if number % 2 == 1 => LATER,
             _ => SLICE,
         };
         let mut packet = Rtp::new(

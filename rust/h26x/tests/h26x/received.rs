@@ -142,8 +142,8 @@ fn packets_without_a_payload() {
     assert_eq!(access_units(&came), wanted);
 }
 
-/// Of a picture of two slices each has the marker, so that nothing tells where it ends: the second goes on with
-/// the first, and isn't known to be whole, but it is clean, and so is what is behind.
+/// Of a picture of two slices each has the marker: the second goes on with the first, and isn't known to be whole, but it
+/// is clean. From then on another timestamp ends an access unit; what ends the last one isn't known.
 #[test]
 fn a_marker_on_each_slice() {
     let mut came = vec![sets(6)];
@@ -157,7 +157,7 @@ fn a_marker_on_each_slice() {
         json!([7, 7, 0, false, true, true]),
         json!([8, 8, 0, false, true, true]),
         json!([9, 9, 0, true, false, true]),
-        json!([10, 10, 0, false, true, true]),
+        json!([10, 10, 0, false, false, false]),
     ];
     assert_eq!(access_units(&came), wanted);
 }
@@ -173,8 +173,8 @@ fn a_marker_on_each_fragment() {
     assert_eq!(access_units(&came)[1], json!([7, 9, 0, false, true, true]));
 }
 
-/// Of a unit of which a fragment is missing nothing is written, and what follows isn't clean before the next
-/// keyframe with its parameter sets.
+/// Of a unit of which a fragment is missing nothing is written, so that an access unit of it alone isn't given out, and
+/// what follows isn't clean before the next keyframe with its parameter sets.
 #[test]
 fn a_loss_inside_a_fragmented_unit() {
     let mut came = vec![sets(6)];
@@ -202,8 +202,7 @@ fn a_loss_inside_a_fragmented_unit() {
     receives(&came, &[], &wanted).says(3, &told);
     let wanted = [
         json!([6, 6, 0, false, true, false]),
-        json!([7, 9, 1, false, false, false]),
-        json!([10, 10, 0, false, true, false]),
+        json!([10, 10, 1, false, true, false]),
         json!([11, 11, 0, false, true, false]),
         json!([12, 13, 0, false, true, true]),
         json!([14, 14, 0, false, true, true]),
@@ -215,7 +214,7 @@ fn a_loss_inside_a_fragmented_unit() {
         it.sequence -= 1;
     }
     let all = access_units(&came);
-    assert_eq!(all[3], json!([11, 12, 0, false, true, false]));
+    assert_eq!(all[2], json!([11, 12, 0, false, true, false]));
 }
 
 /// Behind a gap another timestamp ends the access unit before, which isn't whole; its own is told by itself, and isn't
@@ -298,7 +297,7 @@ fn the_wait_ends() {
     assert_eq!(folder.read("out.h264"), units(&slices(100..120)));
 }
 
-/// Where all packets have one timestamp and none the marker, all is one access unit.
+/// Where all packets have one timestamp and none the marker, a first slice of a picture begins an access unit.
 #[test]
 fn timestamps_that_are_equal() {
     let one = |it| Rtp {
@@ -306,11 +305,20 @@ fn timestamps_that_are_equal() {
         marker: false,
         ..it
     };
-    let came: Vec<Rtp> = slices(65_500..=65_535)
+    let mut came: Vec<Rtp> = slices(65_500..=65_535)
         .into_iter()
         .chain(slices(0..40))
         .map(one)
         .collect();
+    receives(&came, &[], &units(&came)).says(0, &["76 access units"]);
+    assert_eq!(
+        access_units(&came)[75],
+        json!([39, 39, 0, false, false, false])
+    );
+    // Slices that begin no picture are one access unit.
+    for it in &mut came {
+        it.payload[1] = 0x40;
+    }
     receives(&came, &[], &units(&came)).says(0, &["1 access unit"]);
     assert_eq!(
         access_units(&came),

@@ -243,7 +243,7 @@ fn a_picture_without_end() {
     folder.write("in.pcap", &pcap_with(&packets));
     folder
         .run(&["receive", "in.pcap", "out.mp4"])
-        .says(0, &["600 access units"]);
+        .says(0, &["4 access units"]);
     let samples = samples(&folder.read("out.mp4"));
     let lens: Vec<usize> = samples.iter().map(|it| it.bytes.len()).collect();
     let all = 600 * (4 + slice.len()) + 8 + sets[0].len() + sets[1].len();

@@ -83,7 +83,6 @@ fn objects_of_json() {
                 "units": [{"type": "IDR slice", "first": true, "last": false}],
             }),
         ),
-        unit(6, 0.001, 0, 0, false),
         with(
             common(9, 0.002, true, 3),
             json!({
@@ -105,17 +104,18 @@ fn objects_of_json() {
         }),
         json!({"is": "stray", "sequence": 30_000}),
     ];
-    assert_eq!(objects[..11], wanted);
-    let totals = &objects[11];
+    assert_eq!(objects[..10], wanted);
+    let totals = &objects[10];
     for (name, count) in [
         ("packets", 6),
         ("bytes", 22),
-        ("access_units", 3),
+        ("access_units", 2),
         ("keyframes", 0),
         ("whole", 1),
         ("clean", 0),
         ("lost", 2),
         ("refused", 0),
+        ("no_unit", 0),
         ("late", 2),
         ("twice", 0),
         ("moved", 0),
