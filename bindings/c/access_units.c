@@ -218,12 +218,16 @@ static void check_losses(struct tally *t, const struct packets *p)
     gives_none(&it, 204);
     pushes(&it, 205, 16, 9000, true, p->slice, H26X_PUSHED_LATE, 3);
     counts(&it, .taken = 7, .lost = 2, .late = 2, .twice = 1, .units = 5, .whole = 2);
-    /* A middle fragment is missing: nothing of that unit is written, and the access unit isn't whole. */
+    /* A middle fragment is missing: nothing of that unit is written, so its access unit isn't given out, and what is
+     * missing of it is told with the next one. */
     holds(&it, 300, 19, 15000, false, p->start);
-    holds(&it, 300, 21, 15000, true, p->end);
+    holds(&it, 300, 21, 15000, false, p->end);
     gives_none(&it, 399);
-    gives(&it, 400, "", .timestamp = 15000, .missing = 1, .first = 19, .last = 21);
-    counts(&it, .taken = 9, .lost = 3, .late = 2, .twice = 1, .units = 6, .whole = 2);
+    gives_none(&it, 400);
+    holds(&it, 400, 22, 18000, true, p->slice);
+    gives(&it, 400, p->slice_unit, .timestamp = 18000, .missing = 1, .first = 22, .last = 22, .extra = SLICE,
+          .is_whole = true);
+    counts(&it, .taken = 10, .lost = 3, .late = 2, .twice = 1, .units = 6, .whole = 3);
     h26x_access_units_free(it.u);
 }
 
@@ -235,12 +239,14 @@ static void check_markers(struct tally *t, const struct packets *p)
     holds(&it, 0, 10, 0, true, p->key);
     gives(&it, 100, p->key_unit, .first = 10, .last = 10, .extra = KEY, .is_clean = true);
     holds(&it, 100, 11, 3000, true, p->key);
-    holds(&it, 100, 12, 3000, true, p->slice);
+    holds(&it, 100, 12, 3000, true, p->later);
     gives(&it, 100, p->key_unit, .timestamp = 3000, .first = 11, .last = 11, .extra = KEY,
           .is_whole = true, .is_clean = true);
-    gives(&it, 100, p->slice_unit, .timestamp = 3000, .first = 12, .last = 12, .extra = SLICE,
-          .is_clean = true, .continues = true);
+    /* From then on another timestamp tells where an access unit ends. */
+    gives_none(&it, 100);
     holds(&it, 100, 13, 6000, false, p->start);
+    gives(&it, 100, p->later_unit, .timestamp = 3000, .first = 12, .last = 12, .extra = KEY,
+          .is_clean = true, .continues = true);
     holds(&it, 100, 14, 6000, true, "");
     skips(&it, 100, 15, H26X_HELD, 0);
     skips(&it, 100, 15, H26X_PUSHED_LATE, 1);
@@ -252,10 +258,12 @@ static void check_markers(struct tally *t, const struct packets *p)
     holds(&it, 100, 19, 9000, true, p->slice);
     gives(&it, 100, p->unit, .timestamp = 6000, .first = 13, .last = 18, .extra = KEY, .is_whole = true,
           .is_clean = true);
+    gives_none(&it, 100);
+    holds(&it, 100, 20, 12000, true, p->slice);
     gives(&it, 100, p->slice_unit, .timestamp = 9000, .first = 19, .last = 19, .extra = SLICE,
           .is_whole = true, .is_clean = true);
     gives_none(&it, 100);
-    counts(&it, .taken = 7, .late = 2, .skipped = 3, .units = 5, .whole = 3);
+    counts(&it, .taken = 8, .late = 2, .skipped = 3, .units = 5, .whole = 3, .unbelieved = 3);
     h26x_access_units_free(it.u);
 }
 
@@ -298,13 +306,13 @@ static void check_limits(struct tally *t, const struct packets *p)
     gives_none(&it, 0);
     holds(&it, 0, 11, 0, false, p->middle);
     holds(&it, 0, 12, 0, true, p->end);
-    gives(&it, 0, "", .first = 10, .last = 12);
-    counts(&it, .taken = 3, .units = 1, .units_given_up = 1);
+    gives_none(&it, 0);
+    counts(&it, .taken = 3, .units_given_up = 1);
     h26x_access_units_free(it.u);
 
     /* A packet that is refused for what it is. */
     it = receiver_of(t, settings(p->codec));
-    pushes_at(&it, 0, 10, 0, true, p->codec == H26X_H264 ? "7f01" : "ff", H26X_HELD, 0, __LINE__);
+    pushes_at(&it, 0, 10, 0, true, p->codec == H26X_H264 ? "7c" : "ff", H26X_HELD, 0, __LINE__);
     holds(&it, 0, 11, 0, true, p->key);
     gives(&it, 100, p->key_unit, .missing = 1, .first = 11, .last = 11, .extra = KEY, .is_clean = true);
     counts(&it, .taken = 1, .lost = 1, .refused = 1, .units = 1);
@@ -315,21 +323,21 @@ static void check_limits(struct tally *t, const struct packets *p)
     config.unit_limit = 4;
     it = receiver_of(t, config);
     holds(&it, 0, 10, 0, false, p->slice);
-    holds(&it, 0, 11, 0, true, p->key);
+    holds(&it, 0, 11, 0, true, p->later);
     holds(&it, 0, 12, 3000, false, p->slice);
-    holds(&it, 0, 13, 3000, true, p->key);
-    gives(&it, 100, p->key_unit, .first = 10, .last = 11, .extra = KEY);
-    gives(&it, 100, p->key_unit, .timestamp = 3000, .first = 12, .last = 13, .extra = KEY);
+    holds(&it, 0, 13, 3000, true, p->later);
+    gives(&it, 100, p->later_unit, .first = 10, .last = 11, .extra = KEY);
+    gives(&it, 100, p->later_unit, .timestamp = 3000, .first = 12, .last = 13, .extra = KEY);
     counts(&it, .taken = 4, .units = 2, .texts_given_up = 2);
     h26x_access_units_free(it.u);
 
     /* One that is as long as its limit stays. */
     char both[64];
-    snprintf(both, sizeof both, "%s%s", p->slice_unit, p->key_unit);
+    snprintf(both, sizeof both, "%s%s", p->slice_unit, p->later_unit);
     config.unit_limit = bytes_of(p->slice_unit).len;
     it = receiver_of(t, config);
     holds(&it, 0, 10, 0, false, p->slice);
-    holds(&it, 0, 11, 0, true, p->key);
+    holds(&it, 0, 11, 0, true, p->later);
     gives(&it, 100, both, .first = 10, .last = 11, .extra = KEY);
     counts(&it, .taken = 2, .units = 1);
     h26x_access_units_free(it.u);
@@ -370,7 +378,7 @@ static void check_ends_of_streams(struct tally *t, const struct packets *p)
  * missing, so the next one waits to be taken. */
 static void check_long_refusals(struct tally *t, const struct packets *p)
 {
-    const uint8_t refused[] = {p->codec == H26X_H264 ? 0x7f : 0xff};
+    const uint8_t refused[] = {p->codec == H26X_H264 ? 0x7c : 0xff};
     uint32_t held = 0;
     struct receiving it = receiver_of(t, settings(p->codec));
     holds(&it, 0, 65000, 0, true, p->key);
@@ -466,11 +474,11 @@ static void check_settings(struct tally *t, const struct packets *p)
     config.window = 1;
     struct receiving it = receiver_of(t, config);
     holds(&it, 0, 10, 0, false, p->slice);
-    holds(&it, 0, 12, 0, true, p->slice);
-    gives(&it, 0, p->codec == H26X_H264 ? "00000002 619a 00000002 619a"
-                  : p->codec == H26X_H265 ? "00000003 0201d0 00000003 0201d0"
-                                          : "00000003 0001c0 00000003 0001c0",
-          .missing = 1, .first = 10, .last = 12, .extra = SLICE);
+    holds(&it, 0, 12, 0, true, p->later);
+    gives(&it, 0, p->codec == H26X_H264 ? "00000002 619a 00000002 6540"
+                  : p->codec == H26X_H265 ? "00000003 0201d0 00000003 26012c"
+                                          : "00000003 0001c0 00000003 004140",
+          .missing = 1, .first = 10, .last = 12, .extra = KEY);
     h26x_access_units_free(it.u);
 
     config = settings(p->codec);
@@ -610,18 +618,17 @@ static void check_told_number(struct tally *t, const struct packets *p)
 {
     struct receiving it = receiver_of(t, settings(p->codec));
     char both[64];
-    snprintf(both, sizeof both, "%s%s", p->slice_unit, p->slice_unit);
+    snprintf(both, sizeof both, "%s%s", p->slice_unit, p->later_unit);
     begins_at(&it, 65535, 1, __LINE__);
     begins_at(&it, 9, 0, __LINE__);
     asks_never(&it);
     misses(&it, 0, 0);
-    holds(&it, 5, 0, 0, true, p->slice);
+    holds(&it, 5, 0, 0, true, p->later);
     misses(&it, 1, 65535);
     asks_at(&it, 105);
     gives_none(&it, 104);
     holds(&it, 104, 65535, 0, false, p->slice);
-    gives(&it, 104, both, .first = 65535, .last = 0, .extra = SLICE,
-          .is_whole = true);
+    gives(&it, 104, both, .first = 65535, .last = 0, .extra = KEY, .is_whole = true);
     begins_at(&it, 1, 0, __LINE__);
     counts(&it, .taken = 2, .units = 1, .whole = 1);
 
@@ -696,14 +703,17 @@ static void check_sets_before(struct tally *t, const struct packets *p)
     const uint16_t sets = (uint16_t)sets_of(p);
     for (uint16_t gap = 0; gap < 2; gap++) {
         struct receiving it = receiver_without_sets(t, p);
-        for (uint16_t i = 0; i < sets; i++) {
+        const uint16_t slice = 20 + sets, key = slice + 1 + gap;
+        /* (a marker without a slice ends none, so the next timestamp does) */
+        for (uint16_t i = 0; i <= sets; i++) {
             uint8_t to[64];
             h26x_access_unit unit;
-            holds(&it, 0, (uint16_t)(20 + i), i, true, p->sets[i]);
-            expect(t, h26x_access_units_next(&it.u, 0, to, sizeof to, &unit) == H26X_OK && !unit.is_clean);
+            holds(&it, 0, (uint16_t)(20 + i), i < sets ? i : 3000, true, i < sets ? p->sets[i] : p->slice);
+            if (i == 0)
+                gives_none(&it, 0);
+            else
+                expect(t, h26x_access_units_next(&it.u, 0, to, sizeof to, &unit) == H26X_OK && !unit.is_clean);
         }
-        const uint16_t slice = 20 + sets, key = slice + 1 + gap;
-        holds(&it, 0, slice, 3000, true, p->slice);
         gives(&it, 0, p->slice_unit, .timestamp = 3000, .first = slice, .last = slice, .extra = SLICE,
               .is_whole = true);
         holds(&it, 0, key, 6000, true, p->key);
@@ -742,21 +752,16 @@ static void check_keyframe_behind_gap(struct tally *t, const struct packets *p)
     gives(&it, 100, p->slice_unit, .timestamp = 6000, .first = 13, .last = 13, .extra = SLICE, .is_whole = true);
     gives(&it, 200, p->key_unit, .timestamp = 6000, .missing = 1, .first = 15, .last = 15, .extra = KEY,
           .is_clean = true);
-    /* And one that goes on with it is none with which a decoder begins. */
-    holds(&it, 200, 16, 9000, true, p->later);
-    holds(&it, 200, 17, 9000, true, p->key);
-    gives(&it, 200, p->later_unit,
-          .timestamp = 9000, .first = 16, .last = 16, .extra = KEY, .is_whole = true, .is_clean = true);
-    gives(&it, 200, p->key_unit, .timestamp = 9000, .first = 17, .last = 17, .extra = KEY, .is_clean = true,
-          .continues = true);
     h26x_access_units_free(it.u);
 
+    /* Nor does a first slice that follows at once. */
     it = receiver_of(t, settings(p->codec));
     holds(&it, 0, 10, 0, true, p->later);
     holds(&it, 0, 11, 0, true, p->key);
     gives(&it, 0, p->later_unit,
           .first = 10, .last = 10, .extra = KEY);
-    gives(&it, 0, p->key_unit, .first = 11, .last = 11, .extra = KEY, .continues = true);
+    gives(&it, 0, p->key_unit, .first = 11, .last = 11, .extra = KEY, .is_whole = true, .is_clean = true);
+    counts(&it, .taken = 2, .units = 2, .whole = 1, .still = 1);
     h26x_access_units_free(it.u);
 }
 
@@ -813,13 +818,12 @@ static void check_disposable_of_codecs(struct tally *t)
     check_damaged_picture(t, h265, "420103", "2601ac", "0202d0", "0201d0", false);
     check_damaged_picture(t, h265, "42010d", "2601ac", "0006d0", "0201d0", false);
     check_damaged_picture(t, h265, "42010d", "2601ac", "0007d0", "0201d0", true);
-    /* TSA_N, STSA_N, RADL_N, RASL_N; no sequence parameter set; type 10, which is reserved. */
+    /* TSA_N, STSA_N, RADL_N, RASL_N; no sequence parameter set. */
     check_damaged_picture(t, h265, "420101", "2601ac", "0401d0", "0201d0", true);
     check_damaged_picture(t, h265, "420101", "2601ac", "0801d0", "0201d0", true);
     check_damaged_picture(t, h265, "420101", "2601ac", "0c01d0", "0201d0", true);
     check_damaged_picture(t, h265, "420101", "2601ac", "1001d0", "0201d0", true);
     check_damaged_picture(t, h265, NULL, "2601ac", "0001d0", "0201d0", false);
-    check_damaged_picture(t, h265, "420101", "2601ac", "1401d0", "0201d0", false);
     /* In an aggregate: a picture header, and a slice without one; ph_non_ref_pic_flag is its second bit. */
     const char *key = "00e10003 009980 0003 004140";
     check_damaged_picture(t, h266, "007900", key, "00e10003 009940 0003 000140", "0001c0", true);
@@ -839,7 +843,7 @@ static bool is_whole_from(struct receiving *it, const struct packets *p, uint16_
     uint8_t to[64];
     h26x_access_unit unit;
     holds(it, now, number, number, false, first);
-    holds(it, now, number + 1, number, true, p->slice);
+    holds(it, now, number + 1, number, true, p->later);
     expect(it->tally, h26x_access_units_next(&it->u, now + 100, to, sizeof to, &unit) == H26X_OK);
     expect(it->tally, unit.first == number && unit.last == number + 1 && unit.is_clean == (first == p->key));
     return unit.is_whole;
@@ -858,7 +862,7 @@ static void check_front(struct tally *t, const struct packets *p, const char *fi
     gives_none(&it, 1400);
     expect(t, is_whole_from(&it, p, 20, first) == of_later);
     pushes(&it, 2200, 20000, 6000, false, first, H26X_STRAY, 0);
-    pushes(&it, 2200, 20001, 6000, true, p->slice, H26X_ANEW, 0);
+    pushes(&it, 2200, 20001, 6000, true, p->later, H26X_ANEW, 0);
     uint8_t to[64];
     h26x_access_unit unit;
     expect(t, h26x_access_units_next(&it.u, 2200, to, sizeof to, &unit) == H26X_OK);

@@ -143,6 +143,7 @@ static void *run(void *at)
         check_receiving(&work->tally);
         check_sequenced(&work->tally);
         check_access_units(&work->tally);
+        check_access_unit_rows(&work->tally);
         check_showing(&work->tally);
         check_looking(&work->tally);
         check_profiles(&work->tally);

@@ -105,7 +105,7 @@ struct held {
     void *at[2];
 };
 
-enum { HELD = 8, ENDS = 512, MISSING = 64, POINTS = 3, NUMBERS = 36 };
+enum { HELD = 8, ENDS = 512, MISSING = 64, POINTS = 3, NUMBERS = 39 };
 
 static struct held held[HELD];
 
@@ -616,7 +616,8 @@ static void *give(int s, const struct drawn *d)
         unit->len, unit->timestamp, unit->missing, unit->first, unit->last, unit->extra, unit->is_whole,
         unit->is_clean, unit->is_disposable, unit->continues, counts->taken, counts->lost, counts->late, counts->twice,
         counts->stray, counts->refused, counts->skipped, counts->anew, counts->units, counts->whole,
-        counts->units_given_up, counts->texts_given_up, o.said.flags, o.said.len,
+        counts->units_given_up, counts->texts_given_up, counts->no_unit, counts->still, counts->unbelieved,
+        o.said.flags, o.said.len,
         (uint64_t)o.said.frame_only << 2 | (uint64_t)o.said.multilayer << 1 | o.said.general, folded(&o.points[0]),
         folded(&o.points[1]), folded(&o.points[2])};
     memcpy(a->numbers, numbers, sizeof numbers);

@@ -575,13 +575,16 @@ static void refuse_ending_behind_missing(const struct codec *c)
 static uint32_t give_up_run(h26x_access_units *u, const struct codec *c, unsigned way)
 {
     const uint8_t *begin = (const uint8_t *)c->begins[1];
+    uint8_t later[9];
     h26x_access_unit told;
+    memcpy(later, unit, sizeof later);
+    later[c->unit_header] = 0x2a; /* no picture's first slice */
     switch (way) {
     case 0:
         expect(h26x_access_units_skip(u, 0, 14, NULL, NULL) == H26X_OK);
         return h26x_access_units_next(u, 0, to, ROOM, &told) == H26X_NOTHING_YET ? H26X_OK : H26X_NO_ROOM;
     case 1:
-        return h26x_access_units_push(u, 0, 14, 5, false, unit, 9, NULL, NULL);
+        return h26x_access_units_push(u, 0, 14, 5, false, later, sizeof later, NULL, NULL);
     case 2:
         return h26x_access_units_push(u, 0, 12, 5, false, begin, c->fragment_header - 1, NULL, NULL);
     default:
@@ -595,7 +598,7 @@ static void refuse_giving_back(const struct codec *c)
 {
     const h26x_access_units_config config = {
         .codec = c->number, .max_wait = 50, .window = 1, .held_limit = ROOM, .run_limit = ROOM, .unit_limit = ROOM};
-    memset(packet, 0xaa, sizeof packet);
+    memset(packet, 0x2a, sizeof packet);
     memcpy(packet, c->begins[1], c->fragment_header);
     for (unsigned way = 0; way < 4; way++) {
         h26x_access_units u = {NULL};

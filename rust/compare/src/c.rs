@@ -351,8 +351,8 @@ impl End {
         unsafe { h26x_access_units_restart(&mut self.raw) };
     }
 
-    pub fn counts(&self) -> [u64; 12] {
-        let mut counts = [0; 12];
+    pub fn counts(&self) -> [u64; 15] {
+        let mut counts = [0; 15];
         unsafe { h26x_access_units_count(&self.raw, &mut counts) };
         counts
     }

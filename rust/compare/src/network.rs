@@ -169,15 +169,17 @@ pub fn access_units(seed: u64, case: u64, ours: &mut Log, theirs: &mut Log) {
             it.taken, it.lost, it.late, it.twice, it.stray, it.refused, it.skipped, it.anew,
         ];
         let given_up = [it.units_given_up, it.texts_given_up];
-        ours.say("counts", (gone, it.units, it.whole, given_up));
+        let framing = [it.no_unit, it.still, it.unbelieved];
+        ours.say("counts", (gone, it.units, it.whole, given_up, framing));
         beside! {
             while let Some((unit, bytes)) = c_receiver.next_unit(now) {
                 let is = (unit.is_whole, unit.is_clean, unit.is_disposable, unit.continues, unit.extra);
                 theirs.say("unit", (unit.timestamp, unit.missing, unit.first, unit.last, is, bytes));
             }
             theirs.say("waits", (c_receiver.deadline(), c_receiver.missing()));
-            let [gone @ .., units, whole, of_units, of_texts] = c_receiver.counts();
-            theirs.say("counts", (gone, units, whole, [of_units, of_texts]));
+            let [gone @ .., units, whole, of_units, of_texts, no_unit, still, unbelieved] = c_receiver.counts();
+            let framing = [no_unit, still, unbelieved];
+            theirs.say("counts", (gone, units, whole, [of_units, of_texts], framing));
         }
     }
     let _ = theirs;

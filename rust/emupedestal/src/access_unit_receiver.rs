@@ -142,7 +142,8 @@ impl AccessUnitReceiver {
     }
 
     /// The next access unit, if one has ended at this tick. Call it until there is none. A packet that is
-    /// refused is passed over and counted.
+    /// refused is passed over and counted. One without bytes isn't given out: what is missing of it is told with the
+    /// next one.
     ///
     /// The error is `OutOfMemory` alone: the packet for which memory lacks is due still.
     pub fn next(&mut self, now: u32) -> Result<Option<ReceivedAccessUnit>, PacketError> {

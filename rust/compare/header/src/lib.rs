@@ -210,7 +210,7 @@ unsafe extern "C" {
     pub fn h26x_access_units_begin_at(u: *mut Raw, sequence: u16, in_time: *mut u32) -> u32;
     pub fn h26x_access_units_finish(u: *mut Raw) -> u32;
     pub fn h26x_access_units_restart(u: *mut Raw) -> u32;
-    pub fn h26x_access_units_count(u: *const Raw, counts: *mut [u64; 12]) -> u32;
+    pub fn h26x_access_units_count(u: *const Raw, counts: *mut [u64; 15]) -> u32;
     pub fn h26x_h265_shown(d: *const Raw, shown: *mut Shown) -> u32;
     pub fn h26x_h265_part_copy(
         d: *const Raw,

@@ -149,22 +149,21 @@ fn markers_on_each_slice_and_timestamps_that_go_on() {
     for packet in [
         (1, 10, true, "65aa"),
         (2, 20, true, "61bb"),
-        (3, 20, true, "61cc"),
+        (3, 20, true, "614c"),
         (4, 30, false, "61dd"),
-        (5, 30, false, "61ee"),
+        (5, 30, true, "616e"),
         (6, 40, true, "61ff"),
     ] {
         push(&mut it, 0, packet).unwrap();
     }
     let units = units(&mut it, 0);
     let continues: Vec<bool> = units.iter().map(|it| it.continues).collect();
-    assert_eq!(continues, [false, false, true, false, false]);
-    // The second part of a picture isn't known to be whole, as the first isn't, of which nobody knows yet.
+    assert_eq!(continues, [false, false, true, false]);
+    // The second part of a picture isn't known to be whole, as the first isn't, of which nobody knows yet. From then on
+    // the next timestamp tells where an access unit ends.
     assert!(!units[2].is_whole);
-    assert_eq!(
-        told(&units[3..]),
-        [(30, 4, 5, 0, true, false), (40, 6, 6, 0, true, false)]
-    );
+    assert_eq!(told(&units[3..]), [(30, 4, 5, 0, true, false)]);
+    assert_eq!(it.counts().unbelieved, 3);
 }
 
 #[test]
@@ -270,6 +269,29 @@ fn strays_and_a_stream_that_begins_anew() {
     assert_eq!((it.counts().stray, it.counts().anew), (2, 1));
 }
 
+/// An access unit of which nothing stands has ended and wasn't asked for, and then the sender begins anew, far behind or
+/// ahead: none of its packets is late, and no number is lost.
+#[test]
+fn a_stream_that_begins_anew_behind_nothing() {
+    for number in [20_000, 50_000] {
+        let limits = AccessUnitConfig {
+            far: 100,
+            ..config(1, u32::MAX)
+        };
+        let mut it = AccessUnitReceiver::new(Codec::H264, limits);
+        push(&mut it, 0, (40_000, 10, true, "65aa")).unwrap();
+        assert_eq!(units(&mut it, 0).len(), 1);
+        push(&mut it, 0, (40_001, 20, true, "7c4501")).unwrap();
+        let first = (number, 30, false, "65aa");
+        assert_eq!(push(&mut it, 0, first), Ok(Pushed::Stray));
+        let second = (number + 1, 30, true, "6540");
+        assert_eq!(push(&mut it, 0, second), Ok(Pushed::Anew));
+        let wanted = [(30, number, number + 1, 0, false, false)];
+        assert_eq!(told(&units(&mut it, 0)), wanted);
+        assert_eq!((it.counts().late, it.counts().lost), (0, 0));
+    }
+}
+
 #[test]
 #[should_panic(expected = "a window has 1 to 16384 packets")]
 fn a_window_that_is_none() {
@@ -285,7 +307,7 @@ fn draw(state: &mut u64) -> u64 {
 }
 
 /// Drawn packets, lost, twice and in another order: with no time, no far number and no empty payload it gives what a
-/// buffer and a receiver behind it give.
+/// buffer and a receiver behind it give, but for access units without bytes.
 #[test]
 fn drawn_packets_beside_a_buffer_and_a_receiver() {
     let mut state = 0x9e37_79b9_7f4a_7c15;
@@ -343,6 +365,7 @@ fn drawn_packets_beside_a_buffer_and_a_receiver() {
             .collect();
         let wanted: Vec<_> = wanted
             .iter()
+            .filter(|it| !it.bytes.is_empty())
             .map(|it| parts(it.timestamp, &it.bytes, it.extra))
             .collect();
         assert_eq!(got, wanted, "round {round}");

@@ -24,8 +24,11 @@ struct Units {
     slice: &'static str,
     disposable: &'static str,
     disposable_rest: &'static str,
-    /// A unit whose packet is refused.
+    /// One that stands behind slices (filler data, suffix SEI).
+    suffix: &'static str,
+    /// A packet that is refused, and one that bears no unit of the stream.
     refused: &'static str,
+    without: &'static str,
 }
 
 const CODECS: [Units; 3] = [
@@ -40,7 +43,9 @@ const CODECS: [Units; 3] = [
         slice: "419a80",
         disposable: "019a80",
         disposable_rest: "014080",
-        refused: "1e00",
+        suffix: "0cff80",
+        refused: "7c",
+        without: "1e00",
     },
     Units {
         codec: Codec::H265,
@@ -53,7 +58,9 @@ const CODECS: [Units; 3] = [
         slice: "0201d0",
         disposable: "0001d0",
         disposable_rest: "000150",
+        suffix: "500180",
         refused: "6201",
+        without: "4801",
     },
     Units {
         codec: Codec::H266,
@@ -66,7 +73,9 @@ const CODECS: [Units; 3] = [
         slice: "0001c0",
         disposable: "0001e0",
         disposable_rest: "000140",
+        suffix: "00c180",
         refused: "00e9",
+        without: "00a9",
     },
 ];
 
@@ -308,7 +317,7 @@ fn a_decoder_that_has_the_sets() {
 /// taken at the end, or behind each packet, where those that are due needn't wait.
 #[test]
 fn a_gap_before_an_access_unit_ends_the_one_before() {
-    let gaps = ["lost", "refused", "skipped"];
+    let gaps = ["lost", "refused", "skipped", "without a unit"];
     for of in &CODECS {
         for (gap, is_each) in gaps.iter().flat_map(|gap| [(*gap, false), (*gap, true)]) {
             let mut it = Stream::new(of, at_once());
@@ -319,6 +328,7 @@ fn a_gap_before_an_access_unit_ends_the_one_before() {
                     (2, _) => it.push(0, (2, 20, false), &[of.slice]),
                     (3, "refused") => it.push(0, (3, 20, false), &[of.refused]),
                     (3, "skipped") => it.it.skip(0, 3).expect("memory"),
+                    (3, "without a unit") => it.push(0, (3, 20, false), &[of.without]),
                     (3, _) => Pushed::Held,
                     _ => it.push_unit(5, &[of.slice]),
                 };
@@ -327,13 +337,14 @@ fn a_gap_before_an_access_unit_ends_the_one_before() {
                     told.extend(it.told(0));
                 }
             }
-            let [second, fourth] = match gap {
-                "skipped" => ["2: whole, clean", "4: whole, clean"],
-                _ => ["2: ", "4: 1 missing, clean"],
+            let is_lost = ["lost", "refused"].contains(&gap);
+            let [second, fourth] = match is_lost {
+                false => ["2: whole, clean", "4: whole, clean"],
+                true => ["2: ", "4: 1 missing, clean"],
             };
             let wanted = ["1: whole, clean", second, fourth, "5: whole, clean"];
             assert_eq!(told, wanted, "{gap}");
-            assert_eq!(it.it.counts().lost, u64::from(gap != "skipped"), "{gap}");
+            assert_eq!(it.it.counts().lost, u64::from(is_lost), "{gap}");
         }
         // Within an access unit it stays one, of which something is missing.
         let mut it = Stream::new(of, at_once());
@@ -398,22 +409,27 @@ fn what_follows_or_goes_on_with_another() {
         it.push(0, (1, 10, true), &of.sets_and_key());
         it.push(0, (2, 10, true), &[of.key_rest]);
         it.push(0, (3, 20, true), &[of.slice]);
+        assert_eq!(it.told(0), ["1: whole, clean", "2: clean, continues"]);
         // Across missing numbers it isn't known that it goes on.
-        it.push(0, (5, 20, true), &[of.delimiter, of.slice]);
-        let wanted = [
-            "1: whole, clean",
-            "2: clean, continues",
-            "3: whole, clean",
-            "5: 1 missing, whole",
-        ];
-        assert_eq!(it.told(0), wanted);
-        assert_eq!(it.it.counts().lost, 1);
-        // With what goes on with another one a decoder can't begin.
         let mut it = Stream::new(of, at_once());
-        it.push(0, (1, 10, true), &[of.slice]);
-        it.push(0, (2, 10, true), &of.sets_and_key());
-        it.push(0, (3, 30, true), &[of.key]);
-        assert_eq!(it.told(0), ["1: ", "2: continues", "3: whole, clean"]);
+        it.push(0, (1, 10, true), &of.sets_and_key());
+        it.push(0, (3, 10, true), &[of.delimiter, of.slice]);
+        assert_eq!(it.told(0), ["1: whole, clean", "3: 1 missing, whole"]);
+        assert_eq!(it.it.counts().lost, 1);
+        // With what goes on with another one a decoder can't begin, but with what begins by its units.
+        for (first, wanted) in [
+            (of.suffix, "2: continues"),
+            (of.front_set, "2: whole, clean"),
+        ] {
+            let mut it = Stream::new(of, at_once());
+            it.push(0, (1, 10, true), &[of.slice]);
+            it.push(
+                0,
+                (2, 10, true),
+                &[&[first], &of.sets_and_key()[..]].concat(),
+            );
+            assert_eq!(it.told(0), ["1: ", wanted]);
+        }
     }
 }
 
@@ -525,7 +541,8 @@ fn types_of_keyframes() {
                 ),
             };
             let units = [&of.sets()[..], &[&unit]].concat();
-            let told = Stream::new(of, at_once()).told_of(&[(7, &units)]);
+            let packets: [(u16, &[&str]); 2] = [(7, &units), (8, &[of.slice])];
+            let told = Stream::new(of, at_once()).told_of(&packets);
             assert_eq!(told[0].contains("clean"), is_key, "{:?} {unit}", of.codec);
         }
     }

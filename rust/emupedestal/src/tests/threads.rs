@@ -27,7 +27,7 @@ fn all_types_may_be_shared_between_threads() {
         rtp::RedPayload,
         rtp::RedBlocks
     );
-    each!(Codec, CodecExtra, PacketError);
+    each!(Codec, CodecExtra, PacketError, EveryUnitError, Packing);
     each!(H264CodecExtra, H265CodecExtra, H266CodecExtra);
     each!(H265Payload, H265SingleNALUnitPacket, H265PACIPacket);
     each!(H265FragmentationUnitPacket, H265AggregationPacket);

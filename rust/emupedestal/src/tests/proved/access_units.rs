@@ -142,8 +142,7 @@ fn a_stream_that_begins_waits() {
             // Whether any before the first is missing isn't known.
             Step::Missing(&[]),
             Step::None(209),
-            Step::Unit(210, 9000, 0, [false, false, false], 700, 701, 0),
-            // No parameter sets came.
+            // Nothing of the first is written, so that it isn't given out; no parameter sets came.
             Step::Unit(210, 12000, 6, [true, false, false], 702, 702, 0),
         ],
     );
@@ -191,39 +190,42 @@ fn markers_and_numbers_that_bear_nothing() {
         &[
             Step::Push(0, 10, 0, true, SETS_AND_KEY, Pushed::Held),
             Step::Unit(100, 0, 20, [true, true, false], 10, 10, 0),
-            // A marker on each slice.
-            Step::Push(100, 11, 3000, true, KEY, Pushed::Held),
-            Step::Push(100, 12, 3000, true, SLICE, Pushed::Held),
-            Step::Unit(100, 3000, 6, [true, true, false], 11, 11, 0),
-            Step::Unit(100, 3000, 6, [false, true, true], 12, 12, 0),
             // Padding alone in a fragmented unit, and a number of another payload type.
-            Step::Push(100, 13, 6000, false, START, Pushed::Held),
-            Step::Push(100, 14, 6000, true, NOTHING, Pushed::Held),
-            Step::Skip(100, 15, Pushed::Held),
-            Step::Push(100, 16, 6000, false, MIDDLE, Pushed::Held),
-            Step::Push(100, 17, 6000, false, END, Pushed::Held),
+            Step::Push(100, 11, 6000, false, START, Pushed::Held),
+            Step::Push(100, 12, 6000, true, NOTHING, Pushed::Held),
+            Step::Skip(100, 13, Pushed::Held),
+            Step::Push(100, 14, 6000, false, MIDDLE, Pushed::Held),
+            Step::Push(100, 15, 6000, false, END, Pushed::Held),
             // No marker: the next timestamp ends it.
-            Step::Push(100, 18, 9000, true, SLICE, Pushed::Held),
-            Step::Unit(100, 6000, 8, [true, true, false], 13, 17, 0),
-            Step::Unit(100, 9000, 6, [true, true, false], 18, 18, 0),
+            Step::Push(100, 16, 9000, true, SLICE, Pushed::Held),
+            Step::Unit(100, 6000, 8, [true, true, false], 11, 15, 0),
+            Step::Unit(100, 9000, 6, [true, true, false], 16, 16, 0),
             Step::None(100),
-            // A marker on a middle fragment: neither half is written.
-            Step::Push(101, 19, 12000, false, START, Pushed::Held),
-            Step::Push(101, 20, 12000, true, MIDDLE, Pushed::Held),
-            Step::Push(101, 21, 12000, false, END, Pushed::Held),
-            Step::Push(101, 22, 15000, true, SLICE, Pushed::Held),
-            Step::Unit(101, 12000, 0, [false, false, false], 19, 20, 0),
-            Step::Unit(101, 12000, 0, [false, false, true], 21, 21, 0),
-            Step::Unit(101, 15000, 6, [true, false, false], 22, 22, 0),
-            // Equal timestamps without a marker are one, and behind a marker go on with it.
-            Step::Push(102, 23, 18000, false, SETS_AND_KEY, Pushed::Held),
-            Step::Push(102, 24, 18000, false, SLICE, Pushed::Held),
-            Step::Push(102, 25, 21000, true, SLICE, Pushed::Held),
-            Step::Push(102, 26, 21000, true, KEY, Pushed::Held),
-            Step::Unit(102, 18000, 26, [true, true, false], 23, 24, 0),
-            Step::Unit(102, 21000, 6, [true, true, false], 25, 25, 0),
-            Step::Unit(102, 21000, 6, [false, true, true], 26, 26, 0),
+            // Equal timestamps without a marker are one; behind a marker a picture's first slice begins another.
+            Step::Push(102, 17, 18000, false, SETS_AND_KEY, Pushed::Held),
+            Step::Push(102, 18, 18000, false, SLICE, Pushed::Held),
+            Step::Push(102, 19, 21000, true, SLICE, Pushed::Held),
+            Step::Push(102, 20, 21000, true, KEY, Pushed::Held),
+            Step::Unit(102, 18000, 26, [true, true, false], 17, 18, 0),
+            Step::Unit(102, 21000, 6, [true, true, false], 19, 19, 0),
+            Step::Unit(102, 21000, 6, [true, true, false], 20, 20, 0),
             Step::None(102),
+            // A marker on a middle fragment: neither half is written, nor given out.
+            Step::Push(102, 21, 24000, false, START, Pushed::Held),
+            Step::Push(102, 22, 24000, true, MIDDLE, Pushed::Held),
+            Step::Push(102, 23, 24000, false, END, Pushed::Held),
+            Step::Push(102, 24, 27000, true, SLICE, Pushed::Held),
+            Step::Unit(102, 27000, 6, [true, false, false], 24, 24, 0),
+            Step::None(102),
+            // A marker on each slice: once that shows it is another timestamp that ends an access unit.
+            Step::Push(103, 25, 30000, true, SETS_AND_KEY, Pushed::Held),
+            Step::Unit(103, 30000, 20, [true, true, false], 25, 25, 0),
+            Step::Push(103, 26, 30000, true, SLICE, Pushed::Held),
+            Step::Push(103, 27, 30000, true, SLICE, Pushed::Held),
+            Step::None(103),
+            Step::Push(103, 28, 33000, true, SLICE, Pushed::Held),
+            Step::Unit(103, 30000, 12, [false, true, true], 26, 27, 0),
+            Step::None(103),
         ],
     );
 }
