@@ -1,6 +1,7 @@
 //! A packetizer of any codec, or a caller's own.
 
-use crate::{Codec, PacketError, Packetizer, Packets, PacketsSize};
+use crate::packetizer::units_of;
+use crate::{Codec, EveryUnitError, PacketError, Packetizer, Packets, PacketsSize, Packing};
 use crate::{H264Packetizer, H265Packetizer, H266Packetizer};
 use alloc::boxed::Box;
 use alloc::vec::Vec;
@@ -165,6 +166,79 @@ impl CodecPacketizer {
                 packets.replace(&it.packetize(mtu, unit)?);
                 Ok(())
             }
+        }
+    }
+
+    /// The RTP payloads of every NAL unit of one access unit, as
+    /// [`H264Packetizer::packetize_units`] makes and refuses them. `None` of one in a box, whose trait
+    /// has no such call: nothing is done.
+    pub fn packetize_units(
+        &mut self,
+        packing: Packing,
+        mtu: usize,
+        units: &[&[u8]],
+    ) -> Result<Option<Vec<Vec<u8>>>, EveryUnitError> {
+        match self {
+            CodecPacketizer::H264(it) => it.packetize_units(packing, mtu, units).map(Some),
+            CodecPacketizer::H265(it) => it.packetize_units(packing, mtu, units).map(Some),
+            CodecPacketizer::H266(it) => it.packetize_units(packing, mtu, units).map(Some),
+            CodecPacketizer::Boxed(_) => Ok(None),
+        }
+    }
+
+    /// The packets of [`packetize_units`](Self::packetize_units) in the place of those in `packets`, as
+    /// [`packetize_into`](Self::packetize_into) has it. Of one in a box `packets` has none then.
+    pub fn packetize_units_into(
+        &mut self,
+        packing: Packing,
+        mtu: usize,
+        units: &[&[u8]],
+        packets: &mut Packets,
+    ) -> Result<Option<()>, EveryUnitError> {
+        match self {
+            CodecPacketizer::H264(it) => it.packetize_units_into(packing, mtu, units, packets)?,
+            CodecPacketizer::H265(it) => it.packetize_units_into(packing, mtu, units, packets)?,
+            CodecPacketizer::H266(it) => it.packetize_units_into(packing, mtu, units, packets)?,
+            CodecPacketizer::Boxed(_) => {
+                packets.take(0);
+                return Ok(None);
+            }
+        }
+        Ok(Some(()))
+    }
+
+    /// The same of one access unit in Annex B form, as [`H264Packetizer::packetize_access_unit`] makes
+    /// and refuses them; `None` of one in a box: nothing is done.
+    pub fn packetize_access_unit(
+        &mut self,
+        packing: Packing,
+        mtu: usize,
+        access_unit: &[u8],
+    ) -> Result<Option<Vec<Vec<u8>>>, EveryUnitError> {
+        let units = self.units_of(access_unit)?;
+        self.packetize_units(packing, mtu, &units)
+    }
+
+    /// The packets of [`packetize_access_unit`](Self::packetize_access_unit) in the place of those in
+    /// `packets`, as [`packetize_units_into`](Self::packetize_units_into) has it.
+    pub fn packetize_access_unit_into(
+        &mut self,
+        packing: Packing,
+        mtu: usize,
+        access_unit: &[u8],
+        packets: &mut Packets,
+    ) -> Result<Option<()>, EveryUnitError> {
+        let units = self.units_of(access_unit)?;
+        self.packetize_units_into(packing, mtu, &units, packets)
+    }
+
+    /// The units of an access unit in Annex B form; none of one in a box.
+    fn units_of<'a>(&self, access_unit: &'a [u8]) -> Result<Vec<&'a [u8]>, EveryUnitError> {
+        match self {
+            CodecPacketizer::H264(_) => units_of(Codec::H264, access_unit),
+            CodecPacketizer::H265(_) => units_of(Codec::H265, access_unit),
+            CodecPacketizer::H266(_) => units_of(Codec::H266, access_unit),
+            CodecPacketizer::Boxed(_) => Ok(Vec::new()),
         }
     }
 }

@@ -6,15 +6,15 @@
 //! payload layer. RTP's header, retransmissions (RTX) and redundant payloads (RED) are read and written by [`rtp`].
 //!
 //! ```
-//! use emupedestal::{CodecExtra, Depacketizer, H264Depacketizer, H264Packetizer, Packetizer};
+//! use emupedestal::{CodecExtra, Depacketizer, H264Depacketizer, H264Packetizer, Packing};
 //!
 //! // An SPS, a PPS and a slice of an IDR picture, behind start codes.
 //! let frame = [
 //!     0, 0, 0, 1, 0x67, 0x42, 0xc0, 0x1f, 0, 0, 0, 1, 0x68, 0xce, 0, 0, 0, 1, 0x65, 0x88, 0x84,
 //! ];
 //! let mut packetizer = H264Packetizer::default();
-//! let packets = packetizer.packetize(1200, &frame)?;
-//! assert_eq!(packets.len(), 2); // the sets in a STAP-A, then the slice
+//! let packets = packetizer.packetize_access_unit(Packing::Together, 1200, &frame)?;
+//! assert_eq!(packets.len(), 1); // all three in a STAP-A
 //!
 //! let mut depacketizer = H264Depacketizer::default();
 //! let (mut out, mut extra) = (Vec::new(), CodecExtra::None);
@@ -23,8 +23,10 @@
 //! }
 //! assert_eq!(out, frame);
 //! assert!(matches!(extra, CodecExtra::H264(told) if told.is_keyframe));
-//! # Ok::<(), emupedestal::PacketError>(())
+//! # Ok::<(), Box<dyn std::error::Error>>(())
 //! ```
+//!
+//! [`packetize_units`](H264Packetizer::packetize_units) says when to send so, and when by [`Packetizer::packetize`].
 //!
 //! A depacketizer is given packets as they come. Where some of them may be missing, which over a
 //! network is always, give them to a [`SequencedDepacketizer`] with their sequence numbers: it writes
@@ -47,7 +49,8 @@
 //! Each of these stands, with what to do, at the call that it is of.
 //!
 //! - Parameter sets that fit no packet are dropped, and of several sets of a kind before a picture the
-//!   latest goes; no call says so: [`Packetizer::packetize`].
+//!   latest goes; no call says so: [`Packetizer::packetize`]. By
+//!   [`packetize_units`](H264Packetizer::packetize_units) every unit goes, or the first that can't is named.
 //! - Packets of H.265 and H.266 have at most 1200 bytes, whatever the `mtu`, unless
 //!   [`with_max_packet_size`](H265Packetizer::with_max_packet_size) says so.
 //! - Where a packet is lost, its unit is written damaged; a [`SequencedDepacketizer`] leaves such units
@@ -78,9 +81,9 @@
 //!
 //! # Memory
 //!
-//! Where there is none, [`Packetizer::packetize`], [`Depacketizer::depacketize`],
+//! Where there is none, [`Packetizer::packetize`] and its like, [`Depacketizer::depacketize`],
 //! [`SequencedDepacketizer::receive`], [`ReorderBuffer::push`] and [`AccessUnitAssembler::receive`] answer
-//! [`PacketError::OutOfMemory`] and change nothing; `clone` has no such answer and panics or aborts.
+//! `OutOfMemory` and change nothing; `clone` has no such answer and panics or aborts.
 //!
 //! # Features
 //!
@@ -131,7 +134,7 @@ mod profile;
 #[allow(clippy::manual_unwrap_or_default, clippy::mem_replace_option_with_some)]
 #[allow(clippy::needless_lifetimes)]
 #[allow(clippy::needless_range_loop, clippy::nonminimal_bool)]
-#[allow(clippy::ptr_arg, clippy::question_mark)]
+#[allow(clippy::ptr_arg, clippy::question_mark, clippy::too_many_arguments)]
 mod proved;
 pub mod rtp;
 #[cfg(feature = "sdp")]
@@ -170,7 +173,7 @@ pub use proved::h26x_core::{
 };
 pub use proved::h26x_core::{H265FragmentationUnitHeader, H265NALUHeader, H265TSCI};
 pub use proved::h26x_core::{H266FragmentationUnitHeader, H266NALUHeader};
-pub use proved::h26x_packetizer::PacketsSize;
+pub use proved::h26x_packetizer::{EveryUnitError, PacketsSize, Packing, RefusedUnit, WhyRefused};
 pub use proved::h26x_receiver::Received;
 pub use proved::h26x_reorder::{
     HeldPacket, NotHeld, NotHeldReason, Pushed, ReorderBuffer, RtpPacket,

@@ -18,7 +18,8 @@ pub trait Packetizer: fmt::Debug {
     ///
     /// # What isn't sent
     ///
-    /// No call says so, where
+    /// Of what an encoder made [`packetize_units`](crate::H264Packetizer::packetize_units) sends every
+    /// unit. Here some aren't sent, and no call says so, where
     ///
     /// - **a parameter set fits no packet**: sets are not fragmented. They go in one packet where they
     ///   fit it together, else each alone, and one that is longer than the limit (less 2 bytes where

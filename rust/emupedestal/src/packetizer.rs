@@ -1,5 +1,7 @@
 //! The packetizers.
 
+mod every_unit;
+
 use crate::proved::h26x_core::Packetizer as _;
 use crate::proved::h26x_packetizer::{PacketsSize, PayloadPacketizer, Placement};
 use crate::proved::h264_payload::H264;
@@ -7,6 +9,8 @@ use crate::proved::h265_payload::{H265, set_lowest_header};
 use crate::proved::h266_payload::H266;
 use crate::{PacketError, Packetizer, Packets};
 use alloc::vec::Vec;
+
+pub(crate) use every_unit::units_of;
 
 /// Makes packets in the place of those in `packets`, whose room grows where they don't fit.
 fn make_into(

@@ -1,6 +1,7 @@
 //! Tests of every call. Expected packets and units are written out by hand from the RFCs.
 
 mod access_unit_receiver;
+mod access_unit_rows;
 mod access_units;
 mod access_units_told;
 mod assembler;
@@ -8,6 +9,8 @@ mod caveats;
 mod codecs;
 mod depacketizer;
 mod ends;
+mod every_unit;
+mod every_unit_received;
 mod look;
 mod numbers;
 mod packetizer;
