@@ -1,6 +1,8 @@
 //! Live streams: both ends of the program, and FFmpeg and GStreamer at the other end of each.
 
-use crate::peers::{Peer, check_units, send_to, small_streams, sockets, tells_sockets, until};
+use crate::peers::{
+    Peer, check_units, receive, send_to, small_streams, sockets, tells_sockets, until,
+};
 use crate::program::{Folder, PROGRAM, cut};
 use std::fs;
 use std::net::UdpSocket;
@@ -77,12 +79,7 @@ fn a_stream_is_sent_in_its_time() {
     let words = ["send", "in.h264", &to, "--fps", "50", "--sdp", "out.sdp"];
     let peer = Peer::start(&folder, PROGRAM, &words).expect("the program");
     let mut datagram = [0; 2000];
-    let mut next = || {
-        socket
-            .recv(&mut datagram)
-            .ok()
-            .map(|len| datagram[..len].to_vec())
-    };
+    let mut next = || receive(&socket, &mut datagram).map(|len| datagram[..len].to_vec());
     let first = next().expect("a packet");
     let begin = std::time::Instant::now();
     // The description stands there before the first packet goes.
@@ -160,8 +157,8 @@ fn what_rtx_sends_again_is_not_asked_for() {
     let asks = |wait| {
         let mut datagram = [0; 500];
         rtcp.set_read_timeout(Some(wait)).expect("a time");
-        let came = rtcp.recv(&mut datagram);
-        came.is_ok_and(|len| datagram[..len].windows(2).any(|it| it == [0x81, 205]))
+        let came = receive(&rtcp, &mut datagram);
+        came.is_some_and(|len| datagram[..len].windows(2).any(|it| it == [0x81, 205]))
     };
     assert!(asks(Duration::from_secs(1)), "it is asked for");
     let mut again = lost.clone();

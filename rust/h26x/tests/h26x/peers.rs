@@ -4,6 +4,7 @@
 use crate::build::{Rtp, THREE_UNITS, ethernet, ipv4, pcap, udp};
 use crate::program::{Folder, cut, streams};
 use std::fs::{self, File};
+use std::io::ErrorKind;
 use std::net::{Ipv4Addr, UdpSocket};
 use std::path::PathBuf;
 use std::process::{self, Child, Command, Stdio};
@@ -128,6 +129,17 @@ pub fn sockets() -> (u16, [UdpSocket; 2]) {
         Some((port, [bind(port)?, bind(port + 1)?]))
     };
     (0..1000).find_map(of_next).expect("free ports")
+}
+
+/// The length of the next datagram, unless none comes in a socket's time. The system may interrupt a call that
+/// has one.
+pub fn receive(socket: &UdpSocket, datagram: &mut [u8]) -> Option<usize> {
+    loop {
+        match socket.recv(datagram) {
+            Err(error) if error.kind() == ErrorKind::Interrupted => {}
+            came => return came.ok(),
+        }
+    }
 }
 
 /// The packets that a program sends to a socket; nothing where it is missing or can't.
