@@ -21,7 +21,7 @@ use Rattle.h26x_access_units.specs.declared.pushed.Pushed.TheVariants as pushes
 use Rattle.h26x_access_units.specs.Numbers.{bears_nothing}
 use Rattle.h26x_access_units.specs.JitterBuffer.{JitterState, held_bytes, is_full, is_far, jitter_answer, after_jitter, with_held_limit, fresh_jitter}
 use Rattle.h26x_access_units.specs.Pushed.{as_pushed}
-use Rattle.h26x_access_units.specs.Reception.{Reception, reception_answer, after_reception, is_behind_stray, pushed_to, anew_of, assembly_after, is_no_unit, after_no_unit, ends_with, is_taken_at_once, IsDueTaken, IsEndedBefore, is_behind_missing, ended_behind_missing, ended_by_content, begun_for, packet_at, IsPushed, IsDrained, none, bare, more, behind, bare_passed, without_bare, without_bare_of, ended_if_anew, IsDrainedInPart, ended_if_over, has_no_unit, without_given, without_given_of, fresh_reception, IsNext}
+use Rattle.h26x_access_units.specs.Reception.{Reception, reception_answer, after_reception, is_behind_stray, pushed_to, anew_of, assembly_after, is_no_unit, after_no_unit, ends_with, is_taken_at_once, IsDueTaken, IsEndedBefore, is_behind_missing, ended_behind_missing, ended_by_content, begun_for, believed_packet, IsPushed, IsDrained, none, bare, more, behind, bare_passed, without_bare, without_bare_of, ended_if_anew, IsDrainedInPart, ended_if_over, has_no_unit, without_given, without_given_of, fresh_reception, IsNext}
 use Rattle.h26x_access_units.specs.ReceivedAccessUnit.{ReceivedAccessUnitValue}
 use Rattle.h26x_access_units.specs.Limits.{stray_len, IsWithinLimits, StaysWithinLimits}
 
@@ -218,7 +218,7 @@ goes_bytes window due (p ∷ held) = omega arith
 
 due_within : (most now : ℕ) (s t : Reception) → IsDueTaken now s t → IsWithinLimits most s → IsWithinLimits most t
 due_within most now s t it is =
-    let assembler = assembly_within s.run_limit s.unit_limit (begun_for s.assembler it.packet) (packet_at s it.packet) it.answer (record { run = is.run; unit = is.unit }) in
+    let assembler = assembly_within s.run_limit s.unit_limit (begun_for s.assembler it.packet) (believed_packet s it.packet) it.answer (record { run = is.run; unit = is.unit }) in
     let less = goes_bytes s.waiting.buffer.window s.waiting.buffer.due s.waiting.buffer.held in
     let at = is.waiting in
     subst (IsWithinLimits most) (sym it.stands) (record { waiting = omega (arith, less, at); stray = is.stray; run = assembler.run; unit = assembler.unit })

@@ -18,9 +18,9 @@ use Rattle.h26x_access_units.specs.declared.framing.Shown.{Shown}
 use Rattle.h26x_access_units.specs.Content.{content_kind}
 
 -- whether a unit is a slice
-abbrev pub is_slice : UnitKind → Bool
-is_slice (kinds.Slice it) = true
-is_slice kind = false
+abbrev pub is_slice_kind : UnitKind → Bool
+is_slice_kind (kinds.Slice it) = true
+is_slice_kind kind = false
 
 -- whether a unit begins an access unit where it stands behind a slice: a delimiter, parameter sets, a
 -- picture header, others that precede slices, and the first slice of a picture (H.264, 7.4.1.2.3 and
@@ -41,7 +41,7 @@ goes_on_with (Some kind) = false
 -- unit that it begins
 abbrev pub shown_by : Format → List ℕ → Shown
 shown_by f packet = record {
-  has_slice = list_any (λ unit. is_slice (content_kind (f.extra false) (first_bytes unit)))
+  has_slice = list_any (λ unit. is_slice_kind (content_kind (f.extra false) (first_bytes unit)))
       (borne_units (f.read packet));
   first = option_map (content_kind (f.extra false))
       (option_map first_bytes (first_unit_of (begun_units (f.read packet))));

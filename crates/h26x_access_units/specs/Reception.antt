@@ -281,21 +281,21 @@ abbrev pub framing_at : Reception → ℕ × RtpBody → Framing
 framing_at s p = framing_of (begun_for s.assembler p) s.framing s.numbers p
 
 -- the packet as it is given to the assembler
-abbrev pub packet_at : Reception → ℕ × RtpBody → ℕ × RtpBody
-packet_at s p = believed (framing_at s p) p
+abbrev pub believed_packet : Reception → ℕ × RtpBody → ℕ × RtpBody
+believed_packet s p = believed (framing_at s p) p
 
 -- after a packet that was due and was answered so, but for want of memory: it waits no more
 abbrev pub after_due : Reception → ℕ × RtpBody → Result Received PacketError → Reception
 after_due s p answer = record s {
   waiting = without_due s.waiting;
   assembler = marker_forgotten (assembly_after s.run_limit s.unit_limit (begun_for s.assembler p)
-      (packet_at s p) answer);
-  framing = framing_answered s.framing (framing_at s p) (packet_at s p) answer;
-  numbers = numbers_answered (begun_for s.assembler p) s.numbers (framing_at s p) (packet_at s p)
+      (believed_packet s p) answer);
+  framing = framing_answered s.framing (framing_at s p) (believed_packet s p) answer;
+  numbers = numbers_answered (begun_for s.assembler p) s.numbers (framing_at s p) (believed_packet s p)
       answer;
-  counts = counts_answered (begun_for s.assembler p) s.counts (framing_at s p) (packet_at s p)
+  counts = counts_answered (begun_for s.assembler p) s.counts (framing_at s p) (believed_packet s p)
       p.1.marker (is_text_given_up s.run_limit s.unit_limit (begun_for s.assembler p)
-      (packet_at s p)) answer;
+      (believed_packet s p)) answer;
 }
 
 -- where a packet that is due begins an access unit behind numbers that are missing: the one that is
@@ -333,7 +333,7 @@ pub record IsDueTaken (now : ℕ) (s new : Reception) : Type 0 where
   pub due : due_packet now s.waiting ≡ Some packet
   pub follows : ends_before s.assembler s.framing packet ≡ false
   pub answered : IsAnswerTo s.run_limit (begun_for s.assembler packet)
-      (packet_at s packet) answer
+      (believed_packet s packet) answer
   pub room : answer ≡ Err OutOfMemory → ⊥
   pub stands : new ≡ after_due s packet answer
 

@@ -1,7 +1,7 @@
 //! Where access units begin and end, where timestamps and markers don't tell it.
 
 ghost use Rattle.std.specs.Prelude.{◌≡◌, ℕ, Bool, List, false};
-ghost use Rattle.h26x_access_units.specs.Framing.{is_slice, begins_behind_slice, goes_on_with, shown_by, fresh_framing, trusts_markers, ends_by_content, framing_with, believes, framing_marked, is_end_unit, bears_no_unit};
+ghost use Rattle.h26x_access_units.specs.Framing.{is_slice_kind, begins_behind_slice, goes_on_with, shown_by, fresh_framing, trusts_markers, ends_by_content, framing_with, believes, framing_marked, is_end_unit, bears_no_unit};
 
 use crate::content::{UnitKind, byte_at, content_kind};
 use h26x_core::{CodecExtra, PacketError};
@@ -37,9 +37,9 @@ struct IsSlice {
 
 impl UnitTest for IsSlice {
     ghost use Rattle.h26x_access_units.specs.Content.{content_kind};
-    ghost use Rattle.h26x_access_units.specs.Framing.{is_slice};
+    ghost use Rattle.h26x_access_units.specs.Framing.{is_slice_kind};
 
-    ghost holds = { λ it first. is_slice (content_kind it.extra first) };
+    ghost holds = { λ it first. is_slice_kind (content_kind it.extra first) };
 
     #[inline]
     fn holds(&self, first: [u8; 3]) -> bool {

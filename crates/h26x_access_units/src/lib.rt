@@ -9,6 +9,7 @@ mod config;
 mod content;
 mod counts;
 mod decoder;
+mod due;
 mod framing;
 mod jitter;
 pub mod laws;

@@ -8,6 +8,7 @@ mod recorder;
 use emupedestal::{H264Packetizer, Packetizer};
 use std::collections::BTreeMap;
 use std::fs::{self, File};
+use std::io::ErrorKind;
 use std::net::{SocketAddr, UdpSocket};
 use std::time::{Duration, Instant};
 use std::{env, process, thread};
@@ -18,6 +19,17 @@ const FIRST: u16 = 65_500;
 /// Every tenth picture is a keyframe, and of this one a packet never comes.
 const PICTURES: usize = 30;
 const DAMAGED: usize = 15;
+
+/// The length of the next datagram, unless none comes in a socket's time. The system may interrupt a call that
+/// has one.
+fn receive(socket: &UdpSocket, datagram: &mut [u8]) -> Option<usize> {
+    loop {
+        match socket.recv(datagram) {
+            Err(error) if error.kind() == ErrorKind::Interrupted => {}
+            came => return came.ok(),
+        }
+    }
+}
 
 /// A picture in Annex B form: with its sets and an IDR slice, or a slice of another picture.
 fn picture(place: usize) -> Vec<u8> {
@@ -90,7 +102,7 @@ impl Sender {
     fn answer(&mut self, silence: Duration) {
         self.socket.set_read_timeout(Some(silence)).expect("a time");
         let mut buffer = [0; 2048];
-        while let Ok(len) = self.socket.recv(&mut buffer) {
+        while let Some(len) = receive(&self.socket, &mut buffer) {
             let message = &buffer[..len];
             let words = usize::from(u16::from_be_bytes([message[2], message[3]]));
             assert_eq!((message[0], 4 * (words + 1)), (0x81, len), "the header");

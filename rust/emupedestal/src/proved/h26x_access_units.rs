@@ -8,6 +8,7 @@ mod config;
 mod content;
 mod counts;
 mod decoder;
+mod due;
 mod framing;
 mod jitter;
 mod numbers;

@@ -4,7 +4,7 @@ use Rattle.h26x_access_units.specs.declared.numbers.NumbersSoFar.{NumbersSoFar}
 use Rattle.h26x_access_units.specs.Counts.{counted_framing}
 use Rattle.h26x_access_units.specs.Numbers.{numbers_after}
 use Rattle.h26x_access_units.specs.Reception.{is_one_taken}
-use Rattle.h26x_access_units.proofs.receiver.note_received.Goals as goal
+use Rattle.h26x_access_units.proofs.due.note_received.Goals as goal
 
 pub returns-then-not-is_one_taken-clause-numbers : goal.returns-then-not-is_one_taken-clause-numbers
 returns-then-not-is_one_taken-clause-numbers c = λ expected.

@@ -4,7 +4,7 @@ use Rattle.h26x_assembler.specs.Assembler.{assembly_at}
 use Rattle.h26x_assembler.specs.AccessUnit.{is_text_given_up}
 use Rattle.h26x_access_units.specs.declared.framing.Framing.{Framing}
 use Rattle.h26x_access_units.specs.Reception.{marker_forgotten, assembly_after, framing_of, believed, framing_answered, numbers_answered, counts_answered}
-use Rattle.h26x_access_units.proofs.receiver.take_seen.Goals as goal
+use Rattle.h26x_access_units.proofs.due.take_seen.Goals as goal
 
 pub returns-clause-after : goal.returns-clause-after
 returns-clause-after g c = λ lacks.

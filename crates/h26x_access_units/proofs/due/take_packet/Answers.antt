@@ -1,7 +1,7 @@
 use Rattle.std.proofs.Common.{rules, ◌≡◌, false}
 use Rattle.std.specs.Prelude.{◌==◌, length}
 use Rattle.h26x_access_units.proofs.ReceptionLemmas.{taken_as, some_bytes}
-use Rattle.h26x_access_units.proofs.receiver.take_packet.Goals as goal
+use Rattle.h26x_access_units.proofs.due.take_packet.Goals as goal
 
 pub returns-else-is_empty-clause-after : goal.returns-else-is_empty-clause-after
 returns-else-is_empty-clause-after g c =

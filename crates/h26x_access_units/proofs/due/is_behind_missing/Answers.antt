@@ -3,7 +3,7 @@ use Rattle.std.specs.Prelude.{not, ◌&&◌, ◌||◌}
 use Rattle.h26x_core.specs.Sequence.{is_expected}
 use Rattle.h26x_assembler.specs.Assembler.{assembly_at}
 use Rattle.h26x_access_units.specs.Reception.{is_in_reach}
-use Rattle.h26x_access_units.proofs.receiver.is_behind_missing.Goals as goal
+use Rattle.h26x_access_units.proofs.due.is_behind_missing.Goals as goal
 
 pub returns-then-not-is_in_reach : goal.returns-then-not-is_in_reach
 returns-then-not-is_in_reach g c = λ ended.

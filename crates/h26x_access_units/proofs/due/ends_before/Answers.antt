@@ -5,7 +5,7 @@ use Rattle.h26x_assembler.specs.Assembler.{assembly_at}
 use Rattle.h26x_assembler.specs.AccessUnit.{is_unit_at}
 use Rattle.h26x_access_units.specs.Reception.{is_behind_missing, is_in_reach}
 use Rattle.h26x_access_units.proofs.ReceptionLemmas.{ends_at, ends_else, some_bytes}
-use Rattle.h26x_access_units.proofs.receiver.ends_before.Goals as goal
+use Rattle.h26x_access_units.proofs.due.ends_before.Goals as goal
 
 pub returns-then-is_in_reach : goal.returns-then-is_in_reach
 returns-then-is_in_reach g c = λ ended.

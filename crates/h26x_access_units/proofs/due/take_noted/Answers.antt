@@ -2,7 +2,7 @@ use Rattle.std.proofs.Common.{◌∙◌, ap}
 use Rattle.h26x_assembler.specs.declared.assembler.AccessUnitAssembler.{AccessUnitAssembler}
 use Rattle.h26x_assembler.specs.Assembler.{assembly_at}
 use Rattle.h26x_access_units.proofs.ReceptionLemmas.{counts_as}
-use Rattle.h26x_access_units.proofs.receiver.take_noted.Goals as goal
+use Rattle.h26x_access_units.proofs.due.take_noted.Goals as goal
 
 pub returns-in-Ok-clause-numbers : goal.returns-in-Ok-clause-numbers
 returns-in-Ok-clause-numbers g c = λ _. c.note_received.ensures.numbers c.args.assembler.now.packets.expected

@@ -1,0 +1,295 @@
+// Made from crates/h26x_access_units/src/due.rt by tools/to-rust.
+
+//! What becomes of a packet that is due: whether an access unit ends before it, and what is noted.
+
+use crate::proved::h26x_access_units::counts::Counts;
+use crate::proved::h26x_access_units::framing::{
+    Framing, Shown, bears_no_unit, bears_slice, shown_by,
+};
+use crate::proved::h26x_access_units::numbers::{
+    NumbersSoFar, is_timestamp, missing_told, missing_with,
+};
+use crate::proved::h26x_assembler::{AccessUnit, AccessUnitAssembler};
+use crate::proved::h26x_core::{PacketError, is_next};
+use crate::proved::h26x_depacketizer::RunDepacketizer;
+use crate::proved::h26x_receiver::Received;
+use crate::proved::h26x_reorder::RtpPacket;
+use alloc::vec::Vec;
+
+/// Whether an answer says that memory lacks.
+pub(crate) fn is_want_of_memory(received: &Result<Received, PacketError>) -> bool {
+    matches!(received, Err(PacketError::OutOfMemory))
+}
+
+/// Gives a packet that is due to the assembler; one without a payload is skipped.
+fn take_packet<D: RunDepacketizer>(
+    assembler: &mut AccessUnitAssembler<D>,
+    packet: &RtpPacket<'_>,
+    ended: &mut Vec<AccessUnit>,
+) -> Result<Received, PacketError> {
+    if packet.payload.is_empty() {
+        Ok(assembler.skip(packet.sequence))
+    } else {
+        assembler.receive(packet, ended)
+    }
+}
+
+/// Passes over a number whose packet is refused and bears nothing to be written. Its marker ends the
+/// access unit that is open. Without memory all stays as it was.
+#[cold]
+#[inline(never)]
+fn pass_no_unit<D: RunDepacketizer>(
+    assembler: &mut AccessUnitAssembler<D>,
+    ended: &mut Vec<AccessUnit>,
+    numbers: &mut NumbersSoFar,
+    counts: &mut Counts,
+    packet: &RtpPacket<'_>,
+) -> Result<(), PacketError> {
+    let is_next = is_next(assembler.packets.expected, packet.sequence);
+    if packet.marker && assembler.unit.is_at(packet.timestamp) && is_next {
+        assembler.end(ended)?;
+        numbers.close();
+    }
+    let received = assembler.skip(packet.sequence);
+    assembler.forget_marker();
+    numbers.skip(u32::from(missing_told(received)));
+    counts.pass(received);
+    Ok(())
+}
+
+/// Whether a packet was taken, by what was answered: it has a payload and isn't late.
+#[inline]
+fn is_one_taken(packet: &RtpPacket<'_>, received: Received) -> bool {
+    !packet.payload.is_empty() && received.is_taken()
+}
+
+/// Whether an access unit begins by its units at the timestamp of the one before.
+#[inline]
+fn begins_still<D: RunDepacketizer>(
+    assembler: &AccessUnitAssembler<D>,
+    at: Framing,
+    packet: &RtpPacket<'_>,
+) -> bool {
+    !assembler.unit.is_at(packet.timestamp) && at.stands_still
+}
+
+/// Whether a marker was set that isn't believed.
+#[inline]
+fn is_unbelieved(marker: bool, packet: &RtpPacket<'_>) -> bool {
+    marker && !packet.marker
+}
+
+/// A packet with its marker where that is believed.
+#[inline]
+fn believed<'a>(at: Framing, packet: &RtpPacket<'a>) -> RtpPacket<'a> {
+    RtpPacket {
+        sequence: packet.sequence,
+        timestamp: packet.timestamp,
+        marker: at.believes(packet.marker),
+        payload: packet.payload,
+    }
+}
+
+/// Notes of a packet that is due and isn't refused what became of it: `at` is what is known with it of
+/// where access units end.
+#[inline]
+fn note_received(
+    framing: &mut Framing,
+    numbers: &mut NumbersSoFar,
+    counts: &mut Counts,
+    at: Framing,
+    packet: &RtpPacket<'_>,
+    received: Received,
+    unbelieved: bool,
+    still: bool,
+    text: bool,
+) {
+    if !is_one_taken(packet, received) {
+        numbers.note(packet, received);
+        counts.note(packet, received, text);
+        return;
+    }
+    *framing = at.marked(packet.marker);
+    numbers.stand(at.stands_still);
+    numbers.note(packet, received);
+    counts.note(packet, received, text);
+    counts.frame(still, unbelieved);
+}
+
+/// What is known with a packet of where access units end: nothing more than before where it goes on
+/// with an access unit of which a slice came, so that it isn't looked into.
+#[inline]
+fn framing_of<D: RunDepacketizer>(
+    assembler: &AccessUnitAssembler<D>,
+    framing: Framing,
+    numbers: &NumbersSoFar,
+    packet: &RtpPacket<'_>,
+) -> Framing {
+    let is_open = assembler.unit.is_at(packet.timestamp);
+    let is_closed = is_timestamp(numbers.marked, packet.timestamp);
+    if is_open && framing.has_slice && !is_closed {
+        return framing;
+    }
+    let depacketizer = &assembler.packets.depacketizer;
+    if !is_closed {
+        // (what begins doesn't count then)
+        let shown = Shown {
+            has_slice: bears_slice(depacketizer, packet.payload),
+            first: None,
+        };
+        return framing.with(is_open, false, shown);
+    }
+    framing.with(is_open, true, shown_by(depacketizer, packet.payload))
+}
+
+/// Gives it a packet that is due, passes over one that it refuses, and notes what became of it: `at` is
+/// what is known with it of where access units end, and it has its marker where that is believed.
+/// Without memory all stays as it was.
+fn take_noted<D: RunDepacketizer>(
+    assembler: &mut AccessUnitAssembler<D>,
+    ended: &mut Vec<AccessUnit>,
+    framing: &mut Framing,
+    numbers: &mut NumbersSoFar,
+    counts: &mut Counts,
+    at: Framing,
+    packet: &RtpPacket<'_>,
+    marker: bool,
+) -> Result<Received, PacketError> {
+    let still = begins_still(assembler, at, packet);
+    match take_packet(assembler, packet, ended) {
+        Ok(received) => {
+            assembler.forget_marker();
+            let text = assembler.is_text_given_up;
+            let unbelieved = is_unbelieved(marker, packet);
+            note_received(
+                framing, numbers, counts, at, packet, received, unbelieved, still, text,
+            );
+            Ok(received)
+        }
+        Err(PacketError::OutOfMemory) => Err(PacketError::OutOfMemory),
+        Err(error) => {
+            let extra = assembler.packets.depacketizer.extra(false);
+            if bears_no_unit(extra, error, packet.payload) {
+                pass_no_unit(assembler, ended, numbers, counts, packet)?;
+                return Err(error);
+            }
+            let missing = missing_with(assembler.pass_over(packet.sequence));
+            assembler.forget_marker();
+            numbers.skip(missing);
+            counts.refuse(missing);
+            Err(error)
+        }
+    }
+}
+
+/// Whether a number is the one that is expected, or behind others that are missing.
+#[inline]
+fn is_in_reach<D: RunDepacketizer>(assembler: &AccessUnitAssembler<D>, number: u16) -> bool {
+    match assembler.packets.expected {
+        Some(expected) => number.wrapping_sub(expected) < 0x8000,
+        None => false,
+    }
+}
+
+/// Whether numbers are missing right before one that is not late, where a packet was taken.
+#[inline]
+pub(crate) fn is_behind_missing<D: RunDepacketizer>(
+    assembler: &AccessUnitAssembler<D>,
+    number: u16,
+) -> bool {
+    if !is_in_reach(assembler, number) {
+        return false;
+    }
+    assembler.unit.is_gap() || !is_next(assembler.packets.expected, number)
+}
+
+/// Whether the access unit that is open, of a packet's timestamp, ends before it by its units. Where
+/// markers are trusted it isn't looked into.
+#[inline]
+fn ends_by_content<D: RunDepacketizer>(
+    assembler: &AccessUnitAssembler<D>,
+    framing: Framing,
+    packet: &RtpPacket<'_>,
+) -> bool {
+    if framing.trusts_markers() || !framing.has_slice {
+        return false;
+    }
+    framing.ends_by_content(shown_by(&assembler.packets.depacketizer, packet.payload))
+}
+
+/// Whether the access unit that is open ends before a packet.
+#[inline]
+pub(crate) fn ends_before<D: RunDepacketizer>(
+    assembler: &AccessUnitAssembler<D>,
+    framing: Framing,
+    packet: &RtpPacket<'_>,
+) -> bool {
+    if packet.payload.is_empty() {
+        return false;
+    }
+    if assembler.unit.is_at(packet.timestamp) {
+        return is_in_reach(assembler, packet.sequence)
+            && ends_by_content(assembler, framing, packet);
+    }
+    is_behind_missing(assembler, packet.sequence)
+}
+
+/// How many numbers are missing before one that is not late, where another is expected, or none yet.
+pub(crate) fn missing_before(expected: Option<u16>, number: u16) -> u16 {
+    match expected {
+        Some(expected) => number.wrapping_sub(expected),
+        None => 0,
+    }
+}
+
+/// Takes a packet that is due as [`take_noted`] does, with its marker where that is believed.
+fn take_seen<D: RunDepacketizer>(
+    assembler: &mut AccessUnitAssembler<D>,
+    ended: &mut Vec<AccessUnit>,
+    framing: &mut Framing,
+    numbers: &mut NumbersSoFar,
+    counts: &mut Counts,
+    packet: &RtpPacket<'_>,
+) -> Result<Received, PacketError> {
+    let at = framing_of(assembler, *framing, numbers, packet);
+    let taken = believed(at, packet);
+    take_noted(
+        assembler,
+        ended,
+        framing,
+        numbers,
+        counts,
+        at,
+        &taken,
+        packet.marker,
+    )
+}
+
+/// Takes a packet that is due as [`take_seen`] does. Where no number is expected its own is, if it
+/// has a payload, so that it is known of its access unit from it on whether something is missing.
+pub(crate) fn take_begun<D: RunDepacketizer>(
+    assembler: &mut AccessUnitAssembler<D>,
+    ended: &mut Vec<AccessUnit>,
+    framing: &mut Framing,
+    numbers: &mut NumbersSoFar,
+    counts: &mut Counts,
+    packet: &RtpPacket<'_>,
+) -> Result<Received, PacketError> {
+    let expected = assembler.packets.expected;
+    assembler.packets.expected = expected_for(expected, packet);
+    let received = take_seen(assembler, ended, framing, numbers, counts, packet);
+    if is_want_of_memory(&received) {
+        assembler.packets.expected = expected;
+    }
+    received
+}
+
+/// The number that is expected for a packet that is taken: where none is, and it has a payload, its
+/// own.
+fn expected_for(expected: Option<u16>, packet: &RtpPacket<'_>) -> Option<u16> {
+    match expected {
+        Some(number) => Some(number),
+        None if packet.payload.is_empty() => None,
+        None => Some(packet.sequence),
+    }
+}
