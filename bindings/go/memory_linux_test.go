@@ -29,9 +29,10 @@ func again(t *testing.T) bool {
 	return false
 }
 
-// littleMemory leaves this process 64 MiB more.
+// littleMemory leaves this process 64 MiB more. What Go keeps of types whose errors are compared is made before.
 func littleMemory(t *testing.T) {
 	t.Helper()
+	refuses(t, &h26x.Error{Code: h26x.ErrOutOfMemory}, h26x.ErrOutOfMemory)
 	told, err := os.ReadFile("/proc/self/statm")
 	done(t, err)
 	pages, err := strconv.ParseUint(strings.Fields(string(told))[0], 10, 64)
