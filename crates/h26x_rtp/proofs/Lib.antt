@@ -6,3 +6,5 @@ pub mod ElementLemmas
 pub mod RedLemmas
 pub mod RtxLemmas
 pub mod RedLawLemmas
+pub mod StatisticsLemmas
+pub mod FeedbackLemmas

@@ -10,3 +10,5 @@ pub mod ElementViews
 pub mod Rtx
 pub mod Red
 pub mod RedViews
+pub mod Statistics
+pub mod Feedback

@@ -1,17 +1,20 @@
 //! Worked cases of the definitions, which the checker computes. Each is the contract of a function
 //! without a result.
 
-ghost use Rattle.std.specs.Prelude.{◌≡◌, true, false, None, Some, Ok, Err, [], ◌∷◌};
+ghost use Rattle.std.specs.Prelude.{◌≡◌, true, false, None, Some, Ok, Err, [], ◌∷◌, pos, negsuc};
 ghost use Rattle.h26x_rtp.specs.Datagram.{datagram_bytes, IsPadding};
 ghost use Rattle.h26x_rtp.specs.Reading.{datagram_of};
 ghost use Rattle.h26x_rtp.specs.Elements.{extension_elements, elements_in, element_bytes, form_of};
+ghost use Rattle.h26x_rtp.specs.Feedback.{PictureLossFits, IntraRequestFits, ReceiverReportFits, picture_loss_bytes, picture_loss_of, intra_request_bytes, intra_request_of, receiver_report_bytes, receiver_report_of, lost_word, lost_in};
 ghost use Rattle.h26x_rtp.specs.Memory.{overwritten};
 ghost use Rattle.h26x_rtp.specs.Red.{red_of, red_bytes, block_header};
 ghost use Rattle.h26x_rtp.specs.Rtcp.{IsRtcp};
 ghost use Rattle.h26x_rtp.specs.Rtx.{rtx_bytes, retransmission_of};
+ghost use Rattle.h26x_rtp.specs.Statistics.{AreNear, AreAllCounted, after_number, after_numbers, after_report, no_statistics, is_counted, extended_highest, lost_of, fraction_of, jitter_after, report_block};
 
 use crate::elements::ElementForm;
 use crate::error::RtpError;
+use crate::feedback::{FullIntraRequest, PictureLoss, ReceiverReport};
 use crate::red::RedError;
 
 /// Packets: with marker and payload type 96 alone, of padding alone, and with a CSRC and an extension
@@ -173,4 +176,129 @@ pub fn redundant_payloads()
     ensures cut_header { red_of (0x87 ∷ 0x02 ∷ []) ≡ Err RedError.HeadersPastTheEnd }
     ensures cut_block { red_of (0x87 ∷ 0x02 ∷ 0x80 ∷ 0x02 ∷ 0x05 ∷ 0xaa ∷ [])
         ≡ Err RedError.BlocksPastTheEnd }
+{}
+
+/// Numbers that go round, with one lost and one that came late; those that jump, and at the edges.
+pub fn numbers_counted()
+    ensures round { extended_highest (after_numbers (65534 ∷ 0 ∷ 65535 ∷ 2 ∷ []) no_statistics)
+        ≡ 0x1_0002 }
+    ensures expected { (after_numbers (65534 ∷ 0 ∷ 65535 ∷ 2 ∷ []) no_statistics).expected ≡ 5 }
+    ensures received { (after_numbers (65534 ∷ 0 ∷ 65535 ∷ 2 ∷ []) no_statistics).received ≡ 4 }
+    ensures near { AreNear 65534 (65536 ∷ 65535 ∷ 65538 ∷ []) }
+    ensures far { AreNear 7 (3007 ∷ []) → ⊥ }
+    ensures old { AreNear 107 (7 ∷ []) → ⊥ }
+    ensures all { AreAllCounted 65534 65538 4
+        (after_numbers (65534 ∷ 0 ∷ 65535 ∷ 2 ∷ []) no_statistics) }
+    ensures dropout { is_counted 3006 (after_number 7 no_statistics) ≡ true }
+    ensures jump { is_counted 3007 (after_number 7 no_statistics) ≡ false }
+    ensures misorder { is_counted 65444 (after_number 7 no_statistics) ≡ true }
+    ensures back { is_counted 65443 (after_number 7 no_statistics) ≡ false }
+    ensures alone { (after_numbers (7 ∷ 5000 ∷ []) no_statistics).received ≡ 1 }
+    ensures anew { after_numbers (7 ∷ 8 ∷ 5000 ∷ 5001 ∷ []) no_statistics
+        ≡ after_number 5001 no_statistics }
+    ensures other { (after_numbers (7 ∷ 5000 ∷ 9001 ∷ []) no_statistics).highest ≡ 7 }
+{}
+
+/// Lost packets in 24 bits, the part of them since a report, and sixteen times the jitter.
+pub fn losses_and_jitter()
+    ensures none { lost_of 5 5 ≡ pos 0 }
+    ensures one { lost_of 5 4 ≡ pos 1 }
+    ensures twice { lost_of 4 6 ≡ negsuc 1 }
+    ensures most { lost_of 0x100_0000 1 ≡ pos 0x7f_ffff }
+    ensures least { lost_of 1 0x100_0001 ≡ negsuc 0x7f_ffff }
+    ensures quarter { fraction_of 8 6 ≡ 64 }
+    ensures third { fraction_of 3 2 ≡ 85 }
+    ensures all { fraction_of 3 0 ≡ 255 }
+    ensures more { fraction_of 3 4 ≡ 0 }
+    ensures nothing { fraction_of 0 0 ≡ 0 }
+    ensures first { jitter_after None 1000 0 ≡ 0 }
+    ensures apart { jitter_after (Some 1000) 1160 0 ≡ 160 }
+    ensures before { jitter_after (Some 1160) 1000 160 ≡ 310 }
+    ensures same { jitter_after (Some 1000) 1000 160 ≡ 150 }
+    ensures rounded { jitter_after (Some 1000) 1000 8 ≡ 7 }
+    ensures round { jitter_after (Some 0xffff_fff0) 0x10 0 ≡ 32 }
+{}
+
+/// A report of four packets of five, and the next one, before which one of three came.
+pub fn reports()
+    ensures first { report_block 9 0 0 (after_numbers (65534 ∷ 0 ∷ 65535 ∷ 2 ∷ []) no_statistics)
+        ≡ record {
+          ssrc = 9;
+          fraction_lost = 51;
+          lost = pos 1;
+          highest = 0x1_0002;
+          jitter = 0;
+          last_sender_report = 0;
+          delay = 0;
+        } }
+    ensures next { (report_block 9 0 0 (after_numbers (5 ∷ [])
+        (after_report (after_numbers (65534 ∷ 0 ∷ 65535 ∷ 2 ∷ []) no_statistics)))).fraction_lost
+        ≡ 170 }
+    ensures in_all { (report_block 9 0 0 (after_numbers (5 ∷ [])
+        (after_report (after_numbers (65534 ∷ 0 ∷ 65535 ∷ 2 ∷ []) no_statistics)))).lost
+        ≡ pos 3 }
+{}
+
+/// A PLI, a FIR and a receiver report as in the figures of RFC 4585, 6.1, RFC 5104, 4.3.1, and RFC
+/// 3550, 6.4.2; lost packets in 24 bits; what is none of them.
+pub fn feedback()
+    ensures pli { picture_loss_bytes (record { sender = 0x01020304; media = 0xa1a2a3a4 })
+        ≡ 0x81 ∷ 0xce ∷ 0x00 ∷ 0x02 ∷ 0x01 ∷ 0x02 ∷ 0x03 ∷ 0x04 ∷ 0xa1 ∷ 0xa2 ∷ 0xa3 ∷ 0xa4 ∷ [] }
+    ensures fir { intra_request_bytes (record { sender = 1; media = 0xa1a2a3a4; number = 7 })
+        ≡ 0x84 ∷ 0xce ∷ 0x00 ∷ 0x04 ∷ 0x00 ∷ 0x00 ∷ 0x00 ∷ 0x01 ∷ 0x00 ∷ 0x00 ∷ 0x00 ∷ 0x00
+        ∷ 0xa1 ∷ 0xa2 ∷ 0xa3 ∷ 0xa4 ∷ 0x07 ∷ 0x00 ∷ 0x00 ∷ 0x00 ∷ [] }
+    ensures report { receiver_report_bytes (record {
+      sender = 1;
+      block = record {
+        ssrc = 2;
+        fraction_lost = 0x40;
+        lost = negsuc 1;
+        highest = 0x00020003;
+        jitter = 0x44;
+        last_sender_report = 0xa1a2a3a4;
+        delay = 0x00010000;
+      };
+    }) ≡ 0x81 ∷ 0xc9 ∷ 0x00 ∷ 0x07 ∷ 0x00 ∷ 0x00 ∷ 0x00 ∷ 0x01 ∷ 0x00 ∷ 0x00 ∷ 0x00 ∷ 0x02
+        ∷ 0x40 ∷ 0xff ∷ 0xff ∷ 0xfe ∷ 0x00 ∷ 0x02 ∷ 0x00 ∷ 0x03 ∷ 0x00 ∷ 0x00 ∷ 0x00 ∷ 0x44
+        ∷ 0xa1 ∷ 0xa2 ∷ 0xa3 ∷ 0xa4 ∷ 0x00 ∷ 0x01 ∷ 0x00 ∷ 0x00 ∷ [] }
+    ensures read { receiver_report_of (0x81 ∷ 0xc9 ∷ 0x00 ∷ 0x07 ∷ 0x00 ∷ 0x00 ∷ 0x00 ∷ 0x01 ∷ 0x00
+        ∷ 0x00 ∷ 0x00 ∷ 0x02 ∷ 0x40 ∷ 0xff ∷ 0xff ∷ 0xfe ∷ 0x00 ∷ 0x02 ∷ 0x00 ∷ 0x03 ∷ 0x00 ∷ 0x00
+        ∷ 0x00 ∷ 0x44 ∷ 0xa1 ∷ 0xa2 ∷ 0xa3 ∷ 0xa4 ∷ 0x00 ∷ 0x01 ∷ 0x00 ∷ 0x00 ∷ [])
+        ≡ Some (record {
+          sender = 1;
+          block = record {
+            ssrc = 2;
+            fraction_lost = 0x40;
+            lost = negsuc 1;
+            highest = 0x00020003;
+            jitter = 0x44;
+            last_sender_report = 0xa1a2a3a4;
+            delay = 0x00010000;
+          };
+        }) }
+    ensures most { lost_word (pos 0x7f_ffff) ≡ 0x7f_ffff }
+    ensures past { lost_word (pos 0x80_0000) ≡ 0x7f_ffff }
+    ensures least { lost_word (negsuc 0x7f_ffff) ≡ 0x80_0000 }
+    ensures below { lost_in 0x80_0000 ≡ negsuc 0x7f_ffff }
+    ensures other { picture_loss_of (0x81 ∷ 0xcd ∷ 0x00 ∷ 0x02 ∷ 0x00 ∷ 0x00 ∷ 0x00 ∷ 0x01 ∷ 0x00
+        ∷ 0x00 ∷ 0x00 ∷ 0x02 ∷ []) ≡ None }
+    ensures short { picture_loss_of (0x81 ∷ 0xce ∷ 0x00 ∷ 0x02 ∷ 0x00 ∷ 0x00 ∷ 0x00 ∷ 0x01 ∷ [])
+        ≡ None }
+    ensures no_request { intra_request_of [] ≡ None }
+    ensures no_report { receiver_report_of (0x80 ∷ 0xc9 ∷ 0x00 ∷ 0x01 ∷ 0x00 ∷ 0x00 ∷ 0x00 ∷ 0x01 ∷ [])
+        ≡ None }
+    ensures pli_fits { PictureLossFits (record { sender = 0xffff_ffff; media = 0xffff_ffff }) }
+    ensures fir_fits { IntraRequestFits (record { sender = 0; media = 0xffff_ffff; number = 255 }) }
+    ensures report_fits { ReceiverReportFits (record {
+      sender = 0xffff_ffff;
+      block = record {
+        ssrc = 0xffff_ffff;
+        fraction_lost = 255;
+        lost = negsuc 0x7f_ffff;
+        highest = 0xffff_ffff;
+        jitter = 0xffff_ffff;
+        last_sender_report = 0xffff_ffff;
+        delay = 0xffff_ffff;
+      };
+    }) }
 {}

@@ -1,16 +1,19 @@
 //! Laws of the definitions, each the contract of a function without a result.
 
-ghost use Rattle.std.specs.Prelude.{◌≡◌, ◌≤◌, ℕ, Bool, true, false, List, [], ◌∷◌, ◌++◌, Ok, Err, take, drop};
+ghost use Rattle.std.specs.Prelude.{◌≡◌, ◌+◌, ◌^◌, ◌<◌, ◌≤◌, ℕ, Bool, true, false, List, [], ◌∷◌, ◌++◌, Ok, Err, Some, take, drop, length};
 ghost use Rattle.h26x_rtp.specs.Datagram.{HeaderParts, DatagramParts, AreBytes, HeaderFits, IsDatagram, datagram_header};
 ghost use Rattle.h26x_rtp.specs.Reading.{datagram_of};
 ghost use Rattle.h26x_rtp.specs.Elements.{ElementParts, ElementFits, element_bytes, elements_in};
+ghost use Rattle.h26x_rtp.specs.Feedback.{PictureLossFits, picture_loss_bytes, picture_loss_of, IntraRequestFits, intra_request_bytes, intra_request_of, ReceiverReportFits, receiver_report_bytes, receiver_report_of};
 ghost use Rattle.h26x_rtp.specs.Red.{RedParts, IsRed, red_of};
 ghost use Rattle.h26x_rtp.specs.Rtcp.{IsRtcp};
 ghost use Rattle.h26x_rtp.specs.Rtx.{IsOriginal, retransmission_of};
+ghost use Rattle.h26x_rtp.specs.Statistics.{AreAllCounted, AreNear, after_numbers, no_statistics, highest_number};
 ghost use Rattle.h26x_rtp.specs.Writing.{IsDatagramWritten, IsHeaderWritten, told_size};
 
 use crate::elements::ElementForm;
 use crate::error::RtpWriteError;
+use crate::feedback::{FullIntraRequest, PictureLoss, ReceiverReport};
 
 /// Bytes are at most one packet, and that is what they are read as; bytes that are none are refused
 /// (RFC 3550, 5.1).
@@ -88,4 +91,25 @@ pub fn written_elements_are_read()
     ensures padding { (form : ElementForm) (behind : List ℕ) →
         elements_in form (0 ∷ behind) ≡ elements_in form behind }
     ensures none { (form : ElementForm) → elements_in form [] ≡ [] }
+{}
+
+/// Of packets whose numbers, not going round, are near to each other, the extended highest number is
+/// that of the highest; those from the first to it are expected, and all that came are received (RFC
+/// 3550, 6.4.1 and A.3).
+pub fn statistics_are_of_all_packets()
+    ensures { (first : ℕ) (numbers : List ℕ) → first < 2 ^ 16 → AreNear first numbers →
+        highest_number first numbers < 2 ^ 63 → length numbers < 2 ^ 63 →
+        AreAllCounted first (highest_number first numbers) (length numbers + 1)
+        (after_numbers (first ∷ numbers) no_statistics) }
+{}
+
+/// What is written of a report or a request is read as the same (RFC 3550, 6.4.2; RFC 4585, 6.3.1; RFC
+/// 5104, 4.3.1).
+pub fn written_feedback_is_read()
+    ensures picture_loss { (it : PictureLoss) → PictureLossFits it →
+        picture_loss_of (picture_loss_bytes it) ≡ Some it }
+    ensures intra_request { (it : FullIntraRequest) → IntraRequestFits it →
+        intra_request_of (intra_request_bytes it) ≡ Some it }
+    ensures receiver_report { (it : ReceiverReport) → ReceiverReportFits it →
+        receiver_report_of (receiver_report_bytes it) ≡ Some it }
 {}

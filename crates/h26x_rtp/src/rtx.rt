@@ -1,10 +1,11 @@
 //! Retransmission packets (RFC 4588).
 
-ghost use Rattle.std.specs.Prelude.{◌≡◌, ◌<◌, ◌≤◌, ◌++◌, [], false, MatchOption, length};
+ghost use Rattle.std.specs.Prelude.{◌≡◌, ◌<◌, ◌≤◌, ◌++◌, [], false, MatchOption, IfSome, length, drop};
 ghost use Rattle.h26x_rtp.specs.Datagram.{HeaderFits, datagram_header};
 ghost use Rattle.h26x_rtp.specs.Memory.{overwritten};
 ghost use Rattle.h26x_rtp.specs.Rtx.{rtx_bytes, retransmission_of, IsOriginal};
 ghost use Rattle.h26x_rtp.specs.Views.{header_view, datagram_view};
+ghost use Rattle.h26x_rtp.specs.Words.{word_at};
 ghost use Rattle.h26x_rtp.specs.Writing.{IsDatagramWritten, IsBytesWritten};
 
 use crate::datagram::RtpDatagram;
@@ -26,8 +27,11 @@ impl<'a> RtxPayload<'a> {
     /// Reads the payload of a retransmission packet; there is none where it has fewer than two
     /// bytes, as in a packet of padding alone (RFC 4588, 4).
     pub fn read(bytes: &'a [u8]) -> Option<RtxPayload<'a>>
-        ensures { MatchOption result (length bytes.now < 2)
+        ensures spelled { MatchOption result (length bytes.now < 2)
             (λ it. bytes.now ≡ rtx_bytes it.sequence it.payload.now) }
+        ensures long { IfSome result (λ it. 2 ≤ length bytes.now) }
+        ensures number { IfSome result (λ it. it.sequence ≡ word_at bytes.now 0) }
+        ensures payload { IfSome result (λ it. it.payload.now ≡ drop 2 bytes.now) }
     {
         if bytes.len() < 2 {
             return None;

@@ -1,6 +1,7 @@
 //! What stands round a payload: RTP's header (RFC 3550), the elements of header extensions (RFC 8285), retransmissions
-//! (RTX, RFC 4588) and redundant payloads (RED, RFC 2198). Nothing takes memory: what is read is borrowed, and what is
-//! written goes to memory of the caller.
+//! (RTX, RFC 4588) and redundant payloads (RED, RFC 2198); what is counted of a source, and RTCP that reports it (RFC
+//! 3550) or asks for a keyframe (PLI, RFC 4585; FIR, RFC 5104). Nothing takes memory: what is read is borrowed, and what
+//! is written goes to memory of the caller.
 //!
 //! ```
 //! use emupedestal::rtp::{RedPayload, RtpDatagram, RtpHeader, is_rtcp};
@@ -34,9 +35,36 @@
 //! # Ok::<(), Box<dyn std::error::Error>>(())
 //! ```
 //!
+//! Reporting what came of an SSRC, and asking for a keyframe:
+//!
+//! ```
+//! use emupedestal::rtp::{PictureLoss, ReceiverReport, RtpStatistics};
+//!
+//! let mut statistics = RtpStatistics::new();
+//! // Arrival and timestamp in ticks of 90 kHz, and how many bytes the payload has.
+//! for (arrival, sequence, timestamp) in [(900, 65535, 0), (4500, 1, 3000), (6300, 2, 6000)] {
+//!     assert!(statistics.receive(arrival, sequence, timestamp, 1200));
+//! }
+//! let block = statistics.report(1, 0, 0);
+//! assert_eq!((block.highest, block.lost, block.fraction_lost), (0x1_0002, 1, 64));
+//! let mut rtcp = [0; 64];
+//! let len = ReceiverReport { sender: 2, block }.write(&mut rtcp)?;
+//! let behind = PictureLoss { sender: 2, media: 1 }.write(&mut rtcp[len..])?;
+//! assert_eq!((len, behind), (32, 12));
+//! # Ok::<(), Box<dyn std::error::Error>>(())
+//! ```
+//!
 //! Encrypted packets (SRTP) are read as any others: only their headers make sense.
 
 pub use crate::proved::h26x_rtp::{ElementForm, RtpElement, RtpElements};
+pub use crate::proved::h26x_rtp::{FullIntraRequest, PictureLoss, ReceiverReport, ReportBlock};
 pub use crate::proved::h26x_rtp::{RedBlock, RedBlocks, RedError, RedPayload, write_red};
 pub use crate::proved::h26x_rtp::{RtpDatagram, RtpError, RtpExtension, RtpHeader, RtpWriteError};
-pub use crate::proved::h26x_rtp::{RtxPayload, is_rtcp};
+pub use crate::proved::h26x_rtp::{RtpStatistics, RtxPayload, is_rtcp};
+
+impl Default for RtpStatistics {
+    /// Nothing was counted.
+    fn default() -> Self {
+        RtpStatistics::new()
+    }
+}

@@ -3,18 +3,24 @@
 mod datagram;
 mod elements;
 mod error;
+mod feedback;
 mod header;
 mod memory;
 mod red;
+mod report;
 mod rtcp;
 mod rtx;
+mod statistics;
 mod words;
 mod writing;
 
 pub use datagram::RtpDatagram;
 pub use elements::{ElementForm, RtpElement, RtpElements};
 pub use error::{RtpError, RtpWriteError};
+pub use feedback::{FullIntraRequest, PictureLoss, ReceiverReport};
 pub use header::{RtpExtension, RtpHeader};
 pub use red::{RedBlock, RedBlocks, RedError, RedPayload, write_red};
+pub use report::ReportBlock;
 pub use rtcp::is_rtcp;
 pub use rtx::RtxPayload;
+pub use statistics::RtpStatistics;

@@ -1,10 +1,12 @@
 //! RTP's header, elements of extensions, RTX and RED: bytes by the figures of RFC 3550, 5.1, RFC 8285, 4.2 and 4.3,
-//! RFC 4588, 4, and RFC 2198, 3.
+//! RFC 4588, 4, and RFC 2198, 3. Statistics by RFC 3550, A.1, A.3 and A.8, and RTCP by the figures of RFC 3550, 6.4.2,
+//! RFC 4585, 6.1, and RFC 5104, 4.3.1.
 
 use super::bytes;
 use crate::rtp::{
-    RedError, RedPayload, RtpDatagram, RtpError, RtpExtension, RtpHeader, RtpWriteError,
-    RtxPayload, is_rtcp, write_red,
+    FullIntraRequest, PictureLoss, ReceiverReport, RedError, RedPayload, ReportBlock, RtpDatagram,
+    RtpError, RtpExtension, RtpHeader, RtpStatistics, RtpWriteError, RtxPayload, is_rtcp,
+    write_red,
 };
 
 /// A packet with a CSRC, an extension of one word and a byte of padding.
@@ -176,4 +178,127 @@ fn redundant_payloads() {
     let mut room = [0; 4];
     assert_eq!(write_red(96, &[0x65], &mut room), Ok(2));
     assert_eq!(room, [0x60, 0x65, 0, 0]);
+}
+
+/// What is counted of packets of these numbers, which all come 100 ticks behind their timestamps.
+fn counted(numbers: &[u16]) -> RtpStatistics {
+    let mut statistics = RtpStatistics::default();
+    for number in numbers {
+        statistics.receive(100, *number, 0, 10);
+    }
+    statistics
+}
+
+#[test]
+fn numbers_that_are_counted() {
+    let mut statistics = counted(&[65534, 0, 65535, 2]);
+    assert_eq!((statistics.expected, statistics.received), (5, 4));
+    assert_eq!(
+        (statistics.extended_highest(), statistics.lost()),
+        (0x1_0002, 1)
+    );
+    assert_eq!(
+        (statistics.bytes, statistics.interarrival_jitter()),
+        (40, 0)
+    );
+    let first = statistics.report(9, 7, 8);
+    assert_eq!((first.fraction_lost, first.lost), (51, 1));
+    assert_eq!(
+        (first.ssrc, first.last_sender_report, first.delay),
+        (9, 7, 8)
+    );
+    // Of three more one comes.
+    statistics.receive(100, 5, 0, 10);
+    assert_eq!(statistics.report(9, 0, 0).fraction_lost, 170);
+    assert_eq!(statistics.lost(), 3);
+    // None more.
+    assert_eq!(statistics.report(9, 0, 0).fraction_lost, 0);
+    statistics.recover();
+    assert_eq!((statistics.recovered, statistics.lost()), (1, 3));
+}
+
+#[test]
+fn numbers_that_jump() {
+    for (number, counts) in [(3006, true), (3007, false), (65444, true), (65443, false)] {
+        let mut statistics = counted(&[7]);
+        assert_eq!(statistics.receive(100, number, 0, 10), counts, "{number}");
+        assert_eq!(statistics.received, 1 + u64::from(counts));
+    }
+    let anew = counted(&[7, 8, 5000, 5001]);
+    assert_eq!((anew.extended_highest(), anew.received), (5001, 1));
+    assert_eq!(anew.lost(), 0);
+    let other = counted(&[7, 5000, 9001]);
+    assert_eq!((other.extended_highest(), other.received), (7, 1));
+    // More than were expected came.
+    let twice = counted(&[7, 7, 7]);
+    assert_eq!(twice.lost(), -2);
+}
+
+#[test]
+fn jitter() {
+    let mut statistics = RtpStatistics::new();
+    statistics.receive(1000, 1, 0, 0);
+    assert_eq!(statistics.jitter, 0);
+    statistics.receive(4160, 2, 3000, 0);
+    assert_eq!(
+        (statistics.jitter, statistics.interarrival_jitter()),
+        (160, 10)
+    );
+    statistics.receive(7000, 3, 6000, 0);
+    assert_eq!(
+        (statistics.jitter, statistics.interarrival_jitter()),
+        (310, 19)
+    );
+    // Clocks go round at 2^32.
+    let mut statistics = RtpStatistics::new();
+    statistics.receive(u32::MAX - 15, 1, 0, 0);
+    statistics.receive(16, 2, 0, 0);
+    assert_eq!(statistics.jitter, 32);
+}
+
+#[test]
+fn feedback() {
+    let mut room = [0; 33];
+    let pli = PictureLoss {
+        sender: 0x0102_0304,
+        media: 0xa1a2_a3a4,
+    };
+    assert_eq!(pli.write(&mut room), Ok(12));
+    assert_eq!(room[..13], bytes("81ce0002 01020304 a1a2a3a4 00"));
+    assert_eq!(PictureLoss::read(&room[..12]), Some(pli));
+    assert_eq!(PictureLoss::read(&room[..13]), None);
+    assert_eq!(pli.write(&mut room[..11]), Err(RtpWriteError::NoRoom(12)));
+    let fir = FullIntraRequest {
+        sender: 1,
+        media: 0xa1a2_a3a4,
+        number: 7,
+    };
+    assert_eq!(fir.write(&mut room), Ok(20));
+    let wanted = "84ce0004 00000001 00000000 a1a2a3a4 07000000";
+    assert_eq!(room[..20], bytes(wanted));
+    assert_eq!(FullIntraRequest::read(&room[..20]), Some(fir));
+    assert_eq!(FullIntraRequest::read(&room[..12]), None);
+    let block = ReportBlock {
+        ssrc: 2,
+        fraction_lost: 0x40,
+        lost: -2,
+        highest: 0x0002_0003,
+        jitter: 0x44,
+        last_sender_report: 0xa1a2_a3a4,
+        delay: 0x0001_0000,
+    };
+    let report = ReceiverReport { sender: 1, block };
+    assert_eq!(report.write(&mut room), Ok(32));
+    let wanted = "81c90007 00000001 00000002 40fffffe 00020003 00000044 a1a2a3a4 00010000";
+    assert_eq!(room[..32], bytes(wanted));
+    assert_eq!(ReceiverReport::read(&room[..32]), Some(report));
+    assert_eq!(PictureLoss::read(&room[..32]), None);
+    for (lost, written) in [(1 << 23, (1 << 23) - 1), (i32::MIN, -1 << 23)] {
+        let block = ReportBlock { lost, ..block };
+        ReceiverReport { sender: 1, block }
+            .write(&mut room)
+            .unwrap();
+        let read = ReceiverReport::read(&room[..32]).expect("a report");
+        assert_eq!(read.block.lost, written);
+    }
 }
