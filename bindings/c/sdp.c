@@ -115,7 +115,7 @@ static void check_faults(struct tally *t)
         {H26X_H266, "tier-flag=1;profile-id=128;level-id=x", H26X_SDP_OUT_OF_RANGE, 1},
         {H26X_H264, "profile-level-id=42e01", H26X_SDP_NOT_HEXADECIMAL, 0},
         {H26X_H264, "a;b;profile-level-id=42e01g", H26X_SDP_NOT_HEXADECIMAL, 2},
-        {H26X_H265, "tx-mode=srst", H26X_SDP_NOT_TX_MODE, 0},
+        {H26X_H265, "tx-mode=srmt", H26X_SDP_NOT_TX_MODE, 0},
         {H26X_H265, "level-id=93;tx-mode=SRST;LEVEL-ID=93", H26X_SDP_TWICE, 2},
         {263, "", H26X_UNKNOWN_CODEC, 99},
     };
@@ -384,7 +384,7 @@ static void check_streams(struct tally *t)
 {
     stream_says(t, H26X_H264,
                 "00000001 6742c00ad9096c044000000300400000 0c83c48992 000001 68cb8112c8 000001 658884 000001 67010203",
-                H26X_OK, "profile-level-id=42C00A;sprop-parameter-sets=Z0LACtkJbARAAAADAEAAAAyDxImS,aMuBEsg=");
+                H26X_OK, "profile-level-id=42c00a;sprop-parameter-sets=Z0LACtkJbARAAAADAEAAAAyDxImS,aMuBEsg=;packetization-mode=1");
     stream_says(t, H26X_H264, "", H26X_SDP_NO_SET, NULL);
     stream_says(t, H26X_H264, "000001 658884 000001 6742c01f", H26X_SDP_NO_SET, NULL);
     stream_says(t, H26X_H264, "6742c0", H26X_SDP_SHORT_SET, NULL);

@@ -40,7 +40,8 @@ func ReadFormatParameters(codec Codec, text string) (*FormatParameters, error) {
 }
 
 // FormatParametersOfPayload is what a sender says of its stream, of the bytes that it begins with (Annex B): profile,
-// tier and level of the first SPS, and the sets before the first slice.
+// tier and level of the first SPS, and the sets before the first slice; of H.264 packetization-mode=1 too, as
+// packetizers send.
 //
 // Its errors are ErrSDPNoSet, ErrSDPShortSet, ErrSDPNoProfile, ErrUnknownCodec and ErrOutOfMemory.
 func FormatParametersOfPayload(codec Codec, payload []byte) (*FormatParameters, error) {
@@ -75,7 +76,8 @@ func (f *FormatParameters) Close() error {
 func (f *FormatParameters) Codec() Codec { return f.codec }
 
 // Answer is the answer to an offered format by one of ours. Its errors are ErrSDPNoAnswer where they have no
-// configuration in common, as of two codecs, ErrOutOfMemory and ErrClosed.
+// configuration in common, as of two codecs, where the standard has no such profile or level, and where the RFC forbids
+// ours, as a max-fs below the level's; ErrOutOfMemory and ErrClosed.
 //
 // To answer an offer, go through its formats in their order and for each through ours in our order of preference: the
 // first that is made is the answer, with the payload type of the offered format (RFC 3264, 6.1). It is for both

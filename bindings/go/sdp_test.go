@@ -98,7 +98,7 @@ func TestFaultsOfFormatParameters(t *testing.T) {
 		{h26x.H266, "tier-flag=1;profile-id=128;level-id=x", h26x.ErrSDPOutOfRange, 1, " (parameter 1)"},
 		{h26x.H264, "profile-level-id=42e01", h26x.ErrSDPNotHexadecimal, 0, " (parameter 0)"},
 		{h26x.H264, "a;b;profile-level-id=42e01g", h26x.ErrSDPNotHexadecimal, 2, " (parameter 2)"},
-		{h26x.H265, "tx-mode=srst", h26x.ErrSDPNotTxMode, 0, " (parameter 0)"},
+		{h26x.H265, "tx-mode=srmt", h26x.ErrSDPNotTxMode, 0, " (parameter 0)"},
 		{h26x.H265, "level-id=93;tx-mode=SRST;LEVEL-ID=93", h26x.ErrSDPTwice, 2, " (parameter 2)"},
 		{263, "", h26x.ErrUnknownCodec, 0, ""},
 	} {
@@ -353,7 +353,7 @@ func TestWhatAStreamSays(t *testing.T) {
 		code            h26x.Code
 	}{
 		{h26x.H264, "00000001 6742c00ad9096c0440000003004000000c83c48992 000001 68cb8112c8 000001 658884 000001 67010203",
-			"profile-level-id=42C00A;sprop-parameter-sets=Z0LACtkJbARAAAADAEAAAAyDxImS,aMuBEsg=", 0},
+			"profile-level-id=42c00a;sprop-parameter-sets=Z0LACtkJbARAAAADAEAAAAyDxImS,aMuBEsg=;packetization-mode=1", 0},
 		{h26x.H264, "", "", h26x.ErrSDPNoSet},
 		{h26x.H264, "000001 658884 000001 6742c01f", "", h26x.ErrSDPNoSet},
 		{h26x.H264, "6742c0", "", h26x.ErrSDPShortSet},

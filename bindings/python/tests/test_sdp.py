@@ -183,7 +183,7 @@ def test_without_parameters(codec: Codec) -> None:
         (H266, "tier-flag=1;profile-id=128;level-id=x", SdpOutOfRange, 1),
         (H264, "profile-level-id=42e01", SdpNotHexadecimal, 0),
         (H264, "a;b;profile-level-id=42e01g", SdpNotHexadecimal, 2),
-        (H265, "tx-mode=srst", SdpNotTxMode, 0),
+        (H265, "tx-mode=srmt", SdpNotTxMode, 0),
         (H265, "level-id=93;tx-mode=SRST;LEVEL-ID=93", SdpTwice, 2),
     ],
 )
@@ -490,7 +490,8 @@ def test_an_offer() -> None:
             H264,
             "00000001 6742c00ad9096c044000000300400000 0c83c48992 000001 68cb8112c8 000001 658884 "
             "000001 67010203",
-            "profile-level-id=42C00A;sprop-parameter-sets=Z0LACtkJbARAAAADAEAAAAyDxImS,aMuBEsg=",
+            "profile-level-id=42c00a;sprop-parameter-sets=Z0LACtkJbARAAAADAEAAAAyDxImS,aMuBEsg=;"
+            "packetization-mode=1",
         ),
         (
             H265,

@@ -1,13 +1,15 @@
 -- Answers of formats, over any rules.
-use Rattle.std.proofs.Common.{◌≡◌, ℕ, zero, suc, ◌<◌, true, List, [], ◌∷◌, length, get_or, Option, Some, None, ◌⊎◌, inl, inr, refl, ap, ◌∙◌, arith}
+use Rattle.std.proofs.Common.{◌≡◌, ℕ, zero, suc, ◌<◌, Bool, true, false, cond, List, [], ◌∷◌, length, get_or, Option, Some, None, ◌⊎◌, inl, inr, refl, sym, ap, subst, ◌∙◌, arith}
 use Rattle.std.specs.Prelude.{is_some}
-use Rattle.std.specs.List.{Contains}
+use Rattle.std.specs.List.{Contains, AllByRecursion}
 use Rattle.std.specs.Option.{option_map, option_or}
 use Rattle.h26x_answers.specs.declared.answer.Role.{Role}
+use Rattle.h26x_answers.specs.declared.fault.FormatFault.{FormatFault}
 use Rattle.h26x_answers.specs.declared.answer.Role.TheVariants as role
 use Rattle.h26x_fmtp.specs.Reading.{FormatParameters, value_at}
-use Rattle.h26x_answers.specs.Answers.{MediaFormat, Terms, Rules, answered_value, answered_values, answered, common_terms, answer_by, answer_of, format_answer, offer_answer}
-use Rattle.h26x_answers.specs.AnswerLaws.{HaveCommon, ComesFrom}
+use Rattle.h26x_answers.specs.Answers.{MediaFormat, Terms, Rules, answered_value, answered_values, answered, common_terms, answer_by, unless_broken, allowed_answer, answer_of, format_answer, offer_answer}
+use Rattle.h26x_fmtp.specs.Parameters.{AreParameters}
+use Rattle.h26x_answers.specs.AnswerLaws.{ComesFrom, IsCommonAnswered, IsAnswerCommon}
 
 -- each row of the answer is made of those of the offer and of ours
 pub answered_at : (terms : Terms) (roles : List Role) (offered own : List (Option (List ℕ))) (k : ℕ) → length offered ≡ length roles → length own ≡ length roles → k < length roles
@@ -39,9 +41,9 @@ contains_first x xs = (0, omega arith, refl)
 
 -- an answer by ours is by one of ours
 pub answer_from : (rules : Rules) (offered : FormatParameters) (ours : List FormatParameters) (answer : FormatParameters) → answer_of rules offered ours ≡ Some answer
-    → (own : FormatParameters) × (Contains ours own) × (answer_by rules offered own ≡ Some answer)
+    → (own : FormatParameters) × (Contains ours own) × (allowed_answer rules offered own ≡ Some answer)
 answer_from rules offered [] answer h = cc h
-answer_from rules offered (own ∷ ours) answer h = elim (either (answer_by rules offered own) (answer_of rules offered ours) answer h) [
+answer_from rules offered (own ∷ ours) answer h = elim (either (allowed_answer rules offered own) (answer_of rules offered ours) answer h) [
   | inl here ↦ (own, contains_first own ours, here)
   | inr behind ↦ let (it, within, is) = answer_from rules offered ours answer behind in (it, contains_more own ours it within, is)
 ]
@@ -52,39 +54,72 @@ format_parts : (format : MediaFormat) (found : Option FormatParameters) (answer 
 format_parts format None answer h = cc h
 format_parts format (Some it) answer h = (it, refl, cc h)
 
-have_more : (rules : Rules) (first : MediaFormat) (offer : List MediaFormat) (ours : List FormatParameters) (answer : MediaFormat) → ComesFrom rules offer ours answer → ComesFrom rules (first ∷ offer) ours answer
-have_more rules first offer ours answer from = record {
+have_more : (rules : Rules) (Is : FormatParameters → FormatParameters → Type 0) (first : MediaFormat) (offer : List MediaFormat) (ours : List FormatParameters) (answer : MediaFormat) → ComesFrom rules Is offer ours answer → ComesFrom rules Is (first ∷ offer) ours answer
+have_more rules Is first offer ours answer from = record {
   format = from.format;
   own = from.own;
-  terms = from.terms;
   have = record {
     offered = contains_more first offer from.format from.have.offered;
     taken = from.have.taken;
+    known = from.have.known;
+    unbroken = from.have.unbroken;
     common = from.have.common;
   };
+  keeps = from.keeps;
   is = from.is;
 }
 
-have_first : (rules : Rules) (format : MediaFormat) (offer : List MediaFormat) (ours : List FormatParameters) (answer : MediaFormat) → format_answer rules format ours ≡ Some answer → ComesFrom rules (format ∷ offer) ours answer
-have_first rules format offer ours answer h =
+-- what holds of all holds of each
+each_of : {A : Type 0} (P : A → Type 0) (all : List A) (it : A) → AllByRecursion P all → Contains all it → P it
+each_of P [] it holds (k, within, is) = absurd (omega arith)
+each_of P (x ∷ xs) it holds (zero, within, is) = subst P is holds.0
+each_of P (x ∷ xs) it holds (suc k, within, is) = each_of P xs it holds.1 (k, omega arith, is)
+
+-- where there are terms there is a configuration in common
+abbrev pub AreCommon : Rules → (FormatParameters → FormatParameters → Type 0) → Type 0
+AreCommon rules Is = (offered own : FormatParameters) → AreParameters rules.rows offered → AreParameters rules.rows own → (found : Terms) → common_terms rules offered own ≡ Some found → Is offered own
+
+-- and where there is one there are terms
+abbrev pub HaveTerms : Rules → (FormatParameters → FormatParameters → Type 0) → Type 0
+HaveTerms rules Is = (offered own : FormatParameters) → AreParameters rules.rows offered → AreParameters rules.rows own → Is offered own → (found : Terms) × (common_terms rules offered own ≡ Some found)
+
+-- an answer that is allowed is one of a known offer, by ours that breaks no rule
+unbroken_parts : (fault : Option FormatFault) (answer : Option FormatParameters) (it : FormatParameters) → unless_broken fault answer ≡ Some it → (fault ≡ None) × (answer ≡ Some it)
+unbroken_parts None answer it h = (refl, h)
+unbroken_parts (Some fault) answer it h = cc h
+
+let_in : (test : Bool) (some : Option FormatParameters) (it : FormatParameters) → cond test some None ≡ Some it → (test ≡ true) × (some ≡ Some it)
+let_in true some it h = (refl, h)
+let_in false some it h = cc h
+
+have_first : (rules : Rules) (Is : FormatParameters → FormatParameters → Type 0) → AreCommon rules Is → (format : MediaFormat) (offer : List MediaFormat) (ours : List FormatParameters) → AreParameters rules.rows format.parameters → AllByRecursion (AreParameters rules.rows) ours
+    → (answer : MediaFormat) → format_answer rules format ours ≡ Some answer → ComesFrom rules Is (format ∷ offer) ours answer
+have_first rules Is are format offer ours of_format of_ours answer h =
     let (it, by, is) = format_parts format (answer_of rules format.parameters ours) answer h in
-    let (own, within, one) = answer_from rules format.parameters ours it by in
+    let (own, within, allowed) = answer_from rules format.parameters ours it by in
+    let (known, rest) = let_in (rules.known format.parameters) (unless_broken (rules.fault own) (answer_by rules format.parameters own)) it allowed in
+    let (unbroken, one) = unbroken_parts (rules.fault own) (answer_by rules format.parameters own) it rest in
     let (terms, common, made) = answer_parts rules format.parameters own it (common_terms rules format.parameters own) one in
+    let of_own = each_of (AreParameters rules.rows) ours own of_ours within in
     record {
       format = format;
       own = own;
-      terms = terms;
-      have = record { offered = contains_first format offer; taken = within; common = common };
-      is = is ∙ ap (λ (p : FormatParameters). record format { parameters = p }) made;
+      have = record { offered = contains_first format offer; taken = within; known = known; unbroken = unbroken; common = are format.parameters own of_format of_own terms common };
+      keeps = ap (λ (m : MediaFormat). m.payload_type) is;
+      is = one ∙ ap (λ (m : MediaFormat). Some m.parameters) (sym is);
     }
 
 -- an answer comes from a format and one of ours that have a configuration in common
-pub comes_from : (rules : Rules) (offer : List MediaFormat) (ours : List FormatParameters) (answer : MediaFormat) → offer_answer rules offer ours ≡ Some answer → ComesFrom rules offer ours answer
-comes_from rules [] ours answer h = cc h
-comes_from rules (format ∷ offer) ours answer h = elim (either (format_answer rules format ours) (offer_answer rules offer ours) answer h) [
-  | inl here ↦ have_first rules format offer ours answer here
-  | inr behind ↦ have_more rules format offer ours answer (comes_from rules offer ours answer behind)
+comes_from_all : (rules : Rules) (Is : FormatParameters → FormatParameters → Type 0) → AreCommon rules Is → (offer : List MediaFormat) (ours : List FormatParameters) → AllByRecursion (λ it. AreParameters rules.rows it.parameters) offer → AllByRecursion (AreParameters rules.rows) ours
+    → (answer : MediaFormat) → offer_answer rules offer ours ≡ Some answer → ComesFrom rules Is offer ours answer
+comes_from_all rules Is are [] ours of_offer of_ours answer h = cc h
+comes_from_all rules Is are (format ∷ offer) ours of_offer of_ours answer h = elim (either (format_answer rules format ours) (offer_answer rules offer ours) answer h) [
+  | inl here ↦ have_first rules Is are format offer ours of_offer.0 of_ours answer here
+  | inr behind ↦ have_more rules Is format offer ours answer (comes_from_all rules Is are offer ours of_offer.1 of_ours answer behind)
 ]
+
+pub comes_from : (rules : Rules) (Is : FormatParameters → FormatParameters → Type 0) → AreCommon rules Is → IsAnswerCommon rules Is
+comes_from rules Is are offer ours formats answer h = comes_from_all rules Is are offer ours formats.theirs formats.own answer h
 
 -- the first of two or the second is there, if one of them is
 first_there : {A : Type 0} (a b : Option A) → is_some a ≡ true → is_some (option_or a b) ≡ true
@@ -100,13 +135,13 @@ map_there f (Some x) h = refl
 map_there f None h = cc h
 
 -- one of ours that gives an answer is enough
-answer_there : (rules : Rules) (offered own : FormatParameters) (ours : List FormatParameters) (k : ℕ) → k < length ours → get_or ours k own ≡ own → is_some (answer_by rules offered own) ≡ true
+answer_there : (rules : Rules) (offered own : FormatParameters) (ours : List FormatParameters) (k : ℕ) → k < length ours → get_or ours k own ≡ own → is_some (allowed_answer rules offered own) ≡ true
     → is_some (answer_of rules offered ours) ≡ true
 answer_there rules offered own [] k within is there = absurd (omega arith)
 answer_there rules offered own (u ∷ ours) zero within is there =
-    first_there (answer_by rules offered u) (answer_of rules offered ours) (ap (λ it. is_some (answer_by rules offered it)) is ∙ there)
+    first_there (allowed_answer rules offered u) (answer_of rules offered ours) (ap (λ it. is_some (allowed_answer rules offered it)) is ∙ there)
 answer_there rules offered own (u ∷ ours) (suc k) within is there =
-    second_there (answer_by rules offered u) (answer_of rules offered ours) (answer_there rules offered own ours k (omega arith) is there)
+    second_there (allowed_answer rules offered u) (answer_of rules offered ours) (answer_there rules offered own ours k (omega arith) is there)
 
 offer_there : (rules : Rules) (format : MediaFormat) (offer : List MediaFormat) (ours : List FormatParameters) (k : ℕ) → k < length offer → get_or offer k format ≡ format → is_some (format_answer rules format ours) ≡ true
     → is_some (offer_answer rules offer ours) ≡ true
@@ -117,11 +152,16 @@ offer_there rules format (f ∷ offer) ours (suc k) within is there =
     second_there (format_answer rules f ours) (offer_answer rules offer ours) (offer_there rules format offer ours k (omega arith) is there)
 
 -- of two ends with a configuration in common there is an answer
-pub found : (rules : Rules) (offer : List MediaFormat) (ours : List FormatParameters) (format : MediaFormat) (own : FormatParameters) (terms : Terms) → HaveCommon rules offer ours format own terms
-    → is_some (offer_answer rules offer ours) ≡ true
-found rules offer ours format own terms have =
+pub found : (rules : Rules) (Is : FormatParameters → FormatParameters → Type 0) → HaveTerms rules Is → IsCommonAnswered rules Is
+found rules Is have_terms offer ours formats format own have =
+    let of_format = each_of (λ (it : MediaFormat). AreParameters rules.rows it.parameters) offer format formats.theirs have.offered in
+    let of_own = each_of (AreParameters rules.rows) ours own formats.own have.taken in
+    let (terms, common) = have_terms format.parameters own of_format of_own have.common in
     let by : is_some (answer_by rules format.parameters own) ≡ true =
-    map_there (answered rules format.parameters own) (common_terms rules format.parameters own) (ap (λ (o : Option Terms). is_some o) have.common) in
-    let one = answer_there rules format.parameters own ours have.taken.0 have.taken.1 have.taken.2 by in
+    map_there (answered rules format.parameters own) (common_terms rules format.parameters own) (ap (λ (o : Option Terms). is_some o) common) in
+    let let_through : is_some (allowed_answer rules format.parameters own) ≡ true =
+    ap (λ t. is_some (cond t (unless_broken (rules.fault own) (answer_by rules format.parameters own)) None)) have.known
+    ∙ ap (λ f. is_some (unless_broken f (answer_by rules format.parameters own))) have.unbroken ∙ by in
+    let one = answer_there rules format.parameters own ours have.taken.0 have.taken.1 have.taken.2 let_through in
     offer_there rules format offer ours have.offered.0 have.offered.1 have.offered.2
     (map_there (λ (it : FormatParameters). record format { parameters = it }) (answer_of rules format.parameters ours) one)

@@ -64,11 +64,11 @@ pub agreed_by_level : (rows : List ParameterRow) (by : LevelRows) (offered own :
 agreed_by_level rows by offered own found h = agreed_known rows by offered own found (levels_of rows by offered) (levels_of rows by own) refl refl h
 
 -- the parts of levels
-record SaysLevels (number received : Option ℕ) (l : Levels) : Type 0 where
+pub record SaysLevels (number received : Option ℕ) (l : Levels) : Type 0 where
   pub level : number ≡ Some l.level
   pub is : l ≡ levels_by l.level received
 
-says_levels : (level received : Option ℕ) (l : Levels) → option_map (λ n. levels_by n received) level ≡ Some l → SaysLevels level received l
+pub says_levels : (level received : Option ℕ) (l : Levels) → option_map (λ n. levels_by n received) level ≡ Some l → SaysLevels level received l
 says_levels None received l h = cc h
 says_levels (Some n) None l h =
     let e : record { level = n; highest = n } ≡ l = cc h in
@@ -78,7 +78,7 @@ says_levels (Some n) (Some r) l h =
     subst (SaysLevels (Some n) (Some r)) e (record { level = refl; is = refl })
 
 -- the default level isn't above the highest
-low_by : (level : ℕ) (received : Option ℕ) (l : Levels) → l ≡ levels_by level received → l.level ≤ l.highest
+pub low_by : (level : ℕ) (received : Option ℕ) (l : Levels) → l ≡ levels_by level received → l.level ≤ l.highest
 low_by level None l e =
     let one : l.level ≡ level = ap (λ (x : Levels). x.level) e in
     let two : l.highest ≡ level = ap (λ (x : Levels). x.highest) e in

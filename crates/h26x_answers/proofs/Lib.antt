@@ -7,3 +7,7 @@ pub mod KeptH264Lemmas
 pub mod ByLevelLemmas
 pub mod TieredLemmas
 pub mod TieredAgainLemmas
+pub mod SymmetricLemmas
+pub mod ConfigurationsH264Lemmas
+pub mod LevelsSaidLemmas
+pub mod ConfigurationsTieredLemmas

@@ -1,35 +1,47 @@
 -- Which answers an offer has.
-use Rattle.std.specs.Prelude.{◌≡◌, List, Some, true, is_some}
-use Rattle.std.specs.List.{Contains}
+use Rattle.std.specs.Prelude.{◌≡◌, List, Some, None, true, is_some}
+use Rattle.std.specs.List.{Contains, AllByRecursion}
 use Rattle.h26x_fmtp.specs.Reading.{FormatParameters}
-use Rattle.h26x_answers.specs.Answers.{MediaFormat, Terms, Rules, common_terms, answered, answer_by, offer_answer}
+use Rattle.h26x_answers.specs.Answers.{MediaFormat, Rules, answer_by, offer_answer}
 use Rattle.h26x_fmtp.specs.Parameters.{AreParameters}
 
--- an offered format and one of ours that have a configuration in common
-pub record HaveCommon (rules : Rules) (offer : List MediaFormat) (ours : List FormatParameters)
-    (format : MediaFormat) (own : FormatParameters) (terms : Terms) : Type 0 where
+-- an offered format and one of ours that have a configuration in common, by what that is of a codec
+pub record HaveCommon (rules : Rules) (IsCommon : FormatParameters → FormatParameters → Type 0)
+    (offer : List MediaFormat) (ours : List FormatParameters)
+    (format : MediaFormat) (own : FormatParameters) : Type 0 where
   pub offered : Contains offer format
   pub taken : Contains ours own
-  pub common : common_terms rules format.parameters own ≡ Some terms
+  -- its profile and level are those of a table, and ours breaks no rule of its RFC
+  pub known : rules.known format.parameters ≡ true
+  pub unbroken : rules.fault own ≡ None
+  pub common : IsCommon format.parameters own
 
--- an answer is made of an offered format and one of ours, and keeps the payload type
-pub record ComesFrom (rules : Rules) (offer : List MediaFormat) (ours : List FormatParameters)
-    (answer : MediaFormat) : Type 0 where
+-- an answer is made of such a pair, and keeps the payload type
+pub record ComesFrom (rules : Rules) (IsCommon : FormatParameters → FormatParameters → Type 0)
+    (offer : List MediaFormat) (ours : List FormatParameters) (answer : MediaFormat) : Type 0 where
   pub format : MediaFormat
   pub own : FormatParameters
-  pub terms : Terms
-  pub have : HaveCommon rules offer ours format own terms
-  pub is : answer ≡ record format { parameters = answered rules format.parameters own terms }
+  pub have : HaveCommon rules IsCommon offer ours format own
+  pub keeps : answer.payload_type ≡ format.payload_type
+  pub is : answer_by rules format.parameters own ≡ Some answer.parameters
+
+-- all formats of an offer, and all of ours, are parameters of a codec
+pub record AreFormats (rules : Rules) (offer : List MediaFormat) (ours : List FormatParameters) :
+    Type 0 where
+  pub theirs : AllByRecursion (λ it. AreParameters rules.rows it.parameters) offer
+  pub own : AllByRecursion (AreParameters rules.rows) ours
 
 -- an offer that has a configuration in common with one of ours has an answer
-abbrev pub IsCommonAnswered : Rules → List MediaFormat → List FormatParameters → Type 0
-IsCommonAnswered rules offer ours = (format : MediaFormat) (own : FormatParameters) (terms : Terms) →
-    HaveCommon rules offer ours format own terms → is_some (offer_answer rules offer ours) ≡ true
+abbrev pub IsCommonAnswered : Rules → (FormatParameters → FormatParameters → Type 0) → Type 0
+IsCommonAnswered rules IsCommon = (offer : List MediaFormat) (ours : List FormatParameters) →
+    AreFormats rules offer ours → (format : MediaFormat) (own : FormatParameters) →
+    HaveCommon rules IsCommon offer ours format own → is_some (offer_answer rules offer ours) ≡ true
 
 -- an offer has no answer but of such a configuration
-abbrev pub IsAnswerCommon : Rules → List MediaFormat → List FormatParameters → Type 0
-IsAnswerCommon rules offer ours = (answer : MediaFormat) →
-    offer_answer rules offer ours ≡ Some answer → ComesFrom rules offer ours answer
+abbrev pub IsAnswerCommon : Rules → (FormatParameters → FormatParameters → Type 0) → Type 0
+IsAnswerCommon rules IsCommon = (offer : List MediaFormat) (ours : List FormatParameters) →
+    AreFormats rules offer ours → (answer : MediaFormat) →
+    offer_answer rules offer ours ≡ Some answer → ComesFrom rules IsCommon offer ours answer
 
 -- what holds of each answer by rules to parameters of their table, of ours
 abbrev pub OfEachAnswer : Rules →

@@ -5,6 +5,7 @@ use Rattle.std.specs.Option.{option_map, option_or}
 use Rattle.h26x_fmtp.specs.declared.kind.Kind.{Kind}
 use Rattle.h26x_fmtp.specs.declared.kind.Kind.TheVariants.{Number, HexadecimalNumber, Hexadecimal, TxMode, Units, Text}
 use Rattle.h26x_answers.specs.declared.answer.Role.{Role}
+use Rattle.h26x_answers.specs.declared.fault.FormatFault.{FormatFault}
 use Rattle.h26x_answers.specs.declared.answer.Role.TheVariants as role
 use Rattle.std.specs.Cmp.Lexicographic.{pointwise}
 use Rattle.std.specs.Prelude.{nat_eq}
@@ -44,14 +45,15 @@ holds (Some need) (Some room) = nat_le need room
 holds (Some need) None = false
 holds None room = false
 
--- whether two values of a kind are one: numbers by what they say, hexadecimal digits in either case
+-- whether two values of a kind are one: numbers by what they say, hexadecimal digits and modes in
+-- either case
 abbrev pub same_value : Kind → List ℕ → List ℕ → Bool
 same_value (Number least most) a b = same_number (number_of (Number least most) a)
     (number_of (Number least most) b)
 same_value (HexadecimalNumber most) a b = same_number (number_of (HexadecimalNumber most) a)
     (number_of (HexadecimalNumber most) b)
 same_value (Hexadecimal bytes) a b = same_name a b
-same_value TxMode a b = pointwise nat_eq a b
+same_value TxMode a b = same_name a b
 same_value (Units types) a b = pointwise nat_eq a b
 same_value Text a b = pointwise nat_eq a b
 
@@ -116,10 +118,16 @@ pub record Rules : Type 0 where
   pub rows : List ParameterRow
   pub roles : List Role
   pub terms : FormatParameters → FormatParameters → Option Terms
+  -- whether a format's profile and level are those of a table
+  pub known : FormatParameters → Bool
+  -- the first rule of its RFC that a format of one's own breaks
+  pub fault : FormatParameters → Option FormatFault
 
 abbrev pub rules_of : List ParameterRow → List Role →
-    (FormatParameters → FormatParameters → Option Terms) → Rules
-rules_of rows roles terms = record { rows = rows; roles = roles; terms = terms }
+    (FormatParameters → FormatParameters → Option Terms) → (FormatParameters → Bool) →
+    (FormatParameters → Option FormatFault) → Rules
+rules_of rows roles terms known fault =
+    record { rows = rows; roles = roles; terms = terms; known = known; fault = fault }
 
 -- the parameters of the answer, on terms: of those that the table doesn't have our own alone
 abbrev pub answered : Rules → FormatParameters → FormatParameters → Terms → FormatParameters
@@ -139,10 +147,19 @@ abbrev pub answer_by : Rules → FormatParameters → FormatParameters → Optio
 answer_by rules offered own = option_map (answered rules offered own)
     (common_terms rules offered own)
 
+-- the same of an offered format that is known, by one of ours that breaks no rule of its RFC
+abbrev pub unless_broken : Option FormatFault → Option FormatParameters → Option FormatParameters
+unless_broken None answer = answer
+unless_broken (Some fault) answer = None
+
+abbrev pub allowed_answer : Rules → FormatParameters → FormatParameters → Option FormatParameters
+allowed_answer rules offered own =
+    if rules.known offered then unless_broken (rules.fault own) (answer_by rules offered own) else None
+
 -- the answer by the first of ours that gives one
 abbrev pub answer_of : Rules → FormatParameters → List FormatParameters → Option FormatParameters
 answer_of rules offered [] = None
-answer_of rules offered (own ∷ ours) = option_or (answer_by rules offered own)
+answer_of rules offered (own ∷ ours) = option_or (allowed_answer rules offered own)
     (answer_of rules offered ours)
 
 -- the same of a payload type, which it keeps

@@ -1,6 +1,6 @@
 -- Answers to offers of H.264 (RFC 6184, section 8.2.2).
-use Rattle.std.specs.Prelude.{ℕ, ◌+◌, ◌-◌, ◌*◌, ◌==◌, max, nat_lt, Bool, false, not, ◌&&◌, ◌||◌, if◌then◌else◌, List, [], ◌∷◌, Option, Some, None, is_some, Result, Ok}
-use Rattle.std.specs.Option.{option_and_then}
+use Rattle.std.specs.Prelude.{ℕ, ◌+◌, ◌-◌, ◌*◌, ◌==◌, max, nat_lt, nat_le, Bool, false, not, ◌&&◌, ◌||◌, if◌then◌else◌, List, [], ◌∷◌, find, Option, Some, None, is_some, Result, Ok}
+use Rattle.std.specs.Option.{option_and_then, option_or, unwrap_or}
 use Rattle.hex.specs.Hex.{decode_sized, encode_lower}
 use Rattle.hex.specs.declared.error.FromHexError.{FromHexError}
 use Rattle.h26x_profile.specs.H264.{idc_of, profile_of}
@@ -12,8 +12,12 @@ use Rattle.h26x_answers.specs.declared.answer.Role.TheVariants as role
 use Rattle.h26x_sdp.specs.declared.h264.H264Parameter.{H264Parameter}
 use Rattle.h26x_sdp.specs.declared.h264.H264Parameter.TheVariants as p
 use Rattle.h26x_answers.specs.declared.answer.h264.ProfileLevelId.{ProfileLevelId}
-use Rattle.h26x_fmtp.specs.Reading.{FormatParameters, value_at, value_or_default, number_or_default}
+use Rattle.h26x_fmtp.specs.Reading.{FormatParameters, value_at, value_or_default, number_at, number_or_default}
 use Rattle.h26x_sdp.specs.H264Rows.{rows, row_place}
+use Rattle.h26x_answers.specs.declared.fault.FormatFault.{FormatFault}
+use Rattle.h26x_answers.specs.declared.fault.FormatFault.TheVariants as faults
+use Rattle.h26x_answers.specs.declared.answer.own_h264.LevelLimits.{LevelLimits}
+use Rattle.h26x_answers.specs.Faults.{fault_below}
 use Rattle.h26x_answers.specs.Answers.{Terms, Rules, same_number, holds}
 
 -- what each parameter is in an offer and its answer (table 6), in the order of the table
@@ -212,5 +216,105 @@ terms_of_ids offered own (Some a) (Some b) =
 abbrev pub terms : FormatParameters → FormatParameters → Option Terms
 terms offered own = terms_of_ids offered own (id_of offered) (id_of own)
 
+-- ---- formats that RFC 6184, section 8.1, lets an end say of itself
+
+abbrev pub limits_with : ℕ → ℕ → ℕ → ℕ → ℕ → ℕ → LevelLimits
+limits_with rank mbps fs dpb br cpb =
+    record { rank = rank; mbps = mbps; fs = fs; dpb = dpb; br = br; cpb = cpb }
+
+abbrev pub some_limits : ℕ → ℕ → ℕ → ℕ → ℕ → ℕ → Option LevelLimits
+some_limits rank mbps fs dpb br cpb = Some (limits_with rank mbps fs dpb br cpb)
+
+-- what each level asks of a decoder (Rec. ITU-T H.264, table A-1): its place in the order of levels,
+-- MaxMBPS, MaxFS, MaxDpbMbs in units of 8/3 macroblocks, rounded up, MaxBR and MaxCPB
+abbrev pub levels : List LevelLimits
+levels =
+    limits_with 20 1485 99 149 64 175 ∷
+    limits_with 21 1485 99 149 128 350 ∷
+    limits_with 22 3000 396 338 192 500 ∷
+    limits_with 24 6000 396 891 384 1000 ∷
+    limits_with 26 11880 396 891 768 2000 ∷
+    limits_with 40 11880 396 891 2000 2000 ∷
+    limits_with 42 19800 792 1782 4000 4000 ∷
+    limits_with 44 20250 1620 3038 4000 4000 ∷
+    limits_with 60 40500 1620 3038 10000 10000 ∷
+    limits_with 62 108000 3600 6750 14000 14000 ∷
+    limits_with 64 216000 5120 7680 20000 20000 ∷
+    limits_with 80 245760 8192 12288 20000 25000 ∷
+    limits_with 82 245760 8192 12288 50000 62500 ∷
+    limits_with 84 522240 8704 13056 50000 62500 ∷
+    limits_with 100 589824 22080 41400 135000 135000 ∷
+    limits_with 102 983040 36864 69120 240000 240000 ∷
+    limits_with 104 2073600 36864 69120 240000 240000 ∷
+    limits_with 120 4177920 139264 261120 240000 240000 ∷
+    limits_with 122 8355840 139264 261120 480000 480000 ∷
+    limits_with 124 16711680 139264 261120 800000 800000 ∷
+    []
+
+abbrev pub limits_of : ℕ → Option LevelLimits
+limits_of rank = find (λ it. it.rank == rank) levels
+
+abbrev pub below : FormatParameters → H264Parameter → ℕ → Option FormatFault
+below it parameter least = fault_below rows it (row_place parameter) least
+
+-- the first limit that is below what the highest level asks for; that of static macroblocks isn't below
+-- that of others
+abbrev pub first_below : FormatParameters → LevelLimits → Option FormatFault
+first_below it level =
+    option_or (option_or (option_or (option_or (option_or (below it p.MaxMbps level.mbps)
+    (below it p.MaxSmbps (unwrap_or (number_at rows it (row_place p.MaxMbps)) level.mbps)))
+    (below it p.MaxFs level.fs)) (below it p.MaxCpb level.cpb)) (below it p.MaxDpb level.dpb))
+    (below it p.MaxBr level.br)
+
+abbrev pub is_given : FormatParameters → H264Parameter → Bool
+is_given it parameter = is_some (value_at it.values (row_place parameter))
+
+-- in interleaved mode the depth and the buffer that the stream needs are told, and in the other modes
+-- nothing of interleaving
+abbrev pub reordering_fits : FormatParameters → Bool
+reordering_fits it =
+    if is_interleaved it then is_given it p.SpropInterleavingDepth && is_given it p.SpropDeintBufReq
+    else not (is_given it p.SpropInterleavingDepth || is_given it p.SpropDeintBufReq)
+    && not (is_given it p.SpropInitBufTime || is_given it p.SpropMaxDonDiff)
+
+abbrev pub reordering_fault : FormatParameters → Option FormatFault
+reordering_fault it = if reordering_fits it then None else Some faults.Reordering
+
+-- limits and reordering, at the highest level that is received
+abbrev pub fault_at : FormatParameters → Option LevelLimits → Option FormatFault
+fault_at it None = Some faults.HighestLevel
+fault_at it (Some level) = option_or (first_below it level) (reordering_fault it)
+
+-- max-recv-level is above the level
+abbrev pub fault_with : FormatParameters → ℕ → Option (List ℕ) → Option FormatFault
+fault_with it rank None = fault_at it (limits_of rank)
+fault_with it rank (Some text) = if nat_le (recv_rank text) rank then Some faults.HighestLevel
+    else fault_at it (limits_of (recv_rank text))
+
+abbrev pub fault_received : FormatParameters → ℕ → Option FormatFault
+fault_received it rank = fault_with it rank (value_at it.values (row_place p.MaxRecvLevel))
+
+abbrev pub is_level : ProfileLevelId → Bool
+is_level id = is_some (limits_of (level_rank id))
+
+-- the level is one of the standard's
+abbrev pub known_id : Option ProfileLevelId → Bool
+known_id None = false
+known_id (Some id) = is_level id
+
+abbrev pub known : FormatParameters → Bool
+known it = known_id (id_of it)
+
+abbrev pub fault_of_id : FormatParameters → Option ProfileLevelId → Option FormatFault
+fault_of_id it None = Some faults.Level
+fault_of_id it (Some id) =
+    if is_level id then fault_received it (level_rank id) else Some faults.Level
+
+-- the first rule that a format of one's own breaks: its level, the highest one, its limits, and what it
+-- says of packets out of order
+abbrev pub fault : FormatParameters → Option FormatFault
+fault it = fault_of_id it (id_of it)
+
 abbrev pub rules : Rules
-rules = record { rows = rows; roles = roles; terms = terms }
+rules =
+    record { rows = rows; roles = roles; terms = terms; known = known; fault = fault }

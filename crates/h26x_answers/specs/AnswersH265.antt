@@ -8,6 +8,7 @@ use Rattle.h26x_answers.specs.declared.answer.Role.TheVariants as role
 use Rattle.h26x_sdp.specs.declared.h265.H265Parameter.TheVariants as p
 use Rattle.h26x_fmtp.specs.Reading.{FormatParameters, value_at, number_or_default}
 use Rattle.h26x_sdp.specs.H265Rows.{rows, row_place}
+use Rattle.h26x_answers.specs.OwnH265 as own
 use Rattle.h26x_answers.specs.Answers.{Terms, Rules, same_number}
 use Rattle.h26x_answers.specs.AnswersByLevel.{LevelRows, terms_by_level}
 
@@ -65,4 +66,5 @@ terms offered own =
     terms_by_level rows by offered own else None
 
 abbrev pub rules : Rules
-rules = record { rows = rows; roles = roles; terms = terms }
+rules =
+    record { rows = rows; roles = roles; terms = terms; known = own.known; fault = own.fault }

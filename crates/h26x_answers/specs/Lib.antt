@@ -8,3 +8,10 @@ pub mod AnswersByLevel
 pub mod AnswersH265
 pub mod AnswersH266
 pub mod AllowedByLevel
+pub mod LevelsSaid
+pub mod Faults
+pub mod OwnH265
+pub mod OwnH266
+pub mod ConfigurationsH264
+pub mod ConfigurationsH265
+pub mod ConfigurationsH266

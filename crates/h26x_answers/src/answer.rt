@@ -5,8 +5,11 @@ pub(crate) mod by_level;
 pub(crate) mod h264;
 pub(crate) mod h265;
 pub(crate) mod h266;
+pub(crate) mod own_h264;
+pub(crate) mod own_h265;
+pub(crate) mod own_h266;
 
-ghost use Rattle.std.specs.Prelude.{◌≡◌, List, Option, IfOk, length, map, vec_len};
+ghost use Rattle.std.specs.Prelude.{◌≡◌, Bool, List, Option, IfOk, length, map, vec_len};
 ghost use Rattle.std.specs.Option.{option_map, option_or};
 ghost use Rattle.h26x_answers.specs.Answers as spec;
 ghost use Rattle.h26x_answers.specs.AnswersViews.{terms_view};
@@ -14,6 +17,7 @@ ghost use Rattle.h26x_fmtp.specs.Reading as reading;
 ghost use Rattle.h26x_fmtp.specs.ParametersViews.{view, value_view, slice_view, values_view, other_view, others_view};
 ghost use Rattle.h26x_fmtp.specs.TableViews.{row_view};
 
+use crate::fault::FormatFault;
 use h26x_fmtp::{FormatParameters, Kind, OtherParameter, ParameterRow, same_name};
 use h26x_sdp::{CodecParameter, CodecParameters};
 use std::alloc::{AllocError, Global};
@@ -49,10 +53,15 @@ pub enum Role {
 /// agree on.
 pub trait CodecRules: CodecParameter {
     ghost use Rattle.h26x_answers.specs.declared.answer.Role.{Role};
+    ghost use Rattle.h26x_answers.specs.declared.fault.FormatFault.{FormatFault};
 
     ghost roles: { List Role };
 
     ghost terms: { reading.FormatParameters → reading.FormatParameters → Option spec.Terms };
+
+    ghost known: { reading.FormatParameters → Bool };
+
+    ghost fault: { reading.FormatParameters → Option FormatFault };
 
     /// What each parameter is, in the order of the table.
     fn roles() -> &'static [Role]
@@ -67,6 +76,14 @@ pub trait CodecRules: CodecParameter {
         own: &CodecParameters<Self>,
     ) -> Result<Option<Terms>, AllocError>
         ensures { IfOk result (λ it. option_map terms_view it ≡ terms offered.now own.now) };
+
+    /// Whether a format's profile and level are those of a table.
+    fn is_known(it: &CodecParameters<Self>) -> bool
+        ensures { result ≡ known it.now };
+
+    /// The first rule of its RFC that a format of one's own breaks, if it breaks one.
+    fn fault(own: &CodecParameters<Self>) -> Option<FormatFault>
+        ensures { result ≡ fault own.now };
 }
 
 /// What two formats of one configuration agree on.
@@ -114,8 +131,8 @@ fn same_value(kind: Kind, a: &[u8], b: &[u8]) -> bool
         Kind::Number { .. } | Kind::HexadecimalNumber { .. } => {
             same_number(kind.number_of(a), kind.number_of(b))
         }
-        Kind::Hexadecimal { .. } => same_name(a, b),
-        Kind::TxMode | Kind::Units(_) | Kind::Text => a == b,
+        Kind::Hexadecimal { .. } | Kind::TxMode => same_name(a, b),
+        Kind::Units(_) | Kind::Text => a == b,
     }
 }
 
@@ -303,8 +320,8 @@ fn answered<P: CodecRules>(
     own: &CodecParameters<P>,
     terms: &Terms,
 ) -> Result<CodecParameters<P>, AllocError>
-    ensures { IfOk result (λ it. it ≡ spec.answered (spec.rules_of P.rows P.roles P.terms)
-        offered.now own.now (terms_view terms.now)) }
+    ensures { IfOk result (λ it. it ≡ spec.answered (spec.rules_of P.rows P.roles P.terms
+        P.known P.fault) offered.now own.now (terms_view terms.now)) }
 {
     let (o, u) = (offered.parameters(), own.parameters());
     let parameters = FormatParameters {
@@ -321,7 +338,7 @@ fn common_terms<P: CodecRules>(
     own: &CodecParameters<P>,
 ) -> Result<Option<Terms>, AllocError>
     ensures { IfOk result (λ it. option_map terms_view it ≡ spec.common_terms
-        (spec.rules_of P.rows P.roles P.terms) offered.now own.now) }
+        (spec.rules_of P.rows P.roles P.terms P.known P.fault) offered.now own.now) }
 {
     if !are_symmetric(
         P::roles(),
@@ -340,8 +357,8 @@ fn answer_by<P: CodecRules>(
     offered: &CodecParameters<P>,
     own: &CodecParameters<P>,
 ) -> Result<Option<CodecParameters<P>>, AllocError>
-    ensures { IfOk result (λ it. it ≡ spec.answer_by (spec.rules_of P.rows P.roles P.terms)
-        offered.now own.now) }
+    ensures { IfOk result (λ it. it ≡ spec.answer_by (spec.rules_of P.rows P.roles P.terms
+        P.known P.fault) offered.now own.now) }
 {
     match common_terms(alloc, offered, own)? {
         Some(terms) => Ok(Some(answered(alloc, offered, own, &terms)?)),
@@ -349,19 +366,36 @@ fn answer_by<P: CodecRules>(
     }
 }
 
+/// The answer to an offered format of a profile and a level that a table has, by one of ours that
+/// breaks no rule of its RFC.
+fn allowed_answer<P: CodecRules>(
+    alloc: Global,
+    offered: &CodecParameters<P>,
+    own: &CodecParameters<P>,
+) -> Result<Option<CodecParameters<P>>, AllocError>
+    ensures { IfOk result (λ it. it ≡ spec.allowed_answer (spec.rules_of P.rows P.roles P.terms
+        P.known P.fault) offered.now own.now) }
+{
+    if !P::is_known(offered) || P::fault(own).is_some() {
+        return Ok(None);
+    }
+    answer_by(alloc, offered, own)
+}
+
 /// The answer to the parameters of an offered format, by the first of ours that gives one; `None` where
-/// none does. It is for both directions, and for unicast (RFC 6184, section 8.2.2; RFC 7798, section
-/// 7.2.2; RFC 9328, section 7.3.2).
+/// none does, and where the standard has no such profile or level. One of ours that breaks a rule of
+/// its RFC gives none (`fault` of [`CodecRules`] tells it). It is for both directions, and for unicast
+/// (RFC 6184, section 8.2.2; RFC 7798, section 7.2.2; RFC 9328, section 7.3.2).
 pub fn answer_format<P: CodecRules>(
     alloc: Global,
     offered: &CodecParameters<P>,
     ours: &[CodecParameters<P>],
 ) -> Result<Option<CodecParameters<P>>, AllocError>
-    ensures { IfOk result (λ it. it ≡ spec.answer_of (spec.rules_of P.rows P.roles P.terms)
-        offered.now ours.now) }
+    ensures { IfOk result (λ it. it ≡ spec.answer_of (spec.rules_of P.rows P.roles P.terms
+        P.known P.fault) offered.now ours.now) }
 {
     for own in ours {
-        if let Some(answer) = answer_by(alloc, offered, own)? {
+        if let Some(answer) = allowed_answer(alloc, offered, own)? {
             return Ok(Some(answer));
         }
     }
@@ -383,8 +417,8 @@ pub fn answer_to<P: CodecRules>(
     offer: &[Format<P>],
     ours: &[CodecParameters<P>],
 ) -> Result<Option<Format<P>>, AllocError>
-    ensures { IfOk result (λ it. it ≡ spec.offer_answer (spec.rules_of P.rows P.roles P.terms)
-        offer.now ours.now) }
+    ensures { IfOk result (λ it. it ≡ spec.offer_answer (spec.rules_of P.rows P.roles P.terms
+        P.known P.fault) offer.now ours.now) }
 {
     for format in offer {
         if let Some(parameters) = answer_format(alloc, &format.parameters, ours)? {

@@ -1,28 +1,41 @@
 //! Laws of answers. Each is the contract of a function without a result.
 
-ghost use Rattle.std.specs.Prelude.{◌≡◌, true, false, List};
+ghost use Rattle.std.specs.Prelude.{◌≡◌, true, false};
 ghost use Rattle.h26x_fmtp.specs.Parameters.{AreParameters, IsReadAgain};
 ghost use Rattle.h26x_fmtp.specs.Reading.{FormatParameters};
-ghost use Rattle.h26x_answers.specs.Answers.{MediaFormat, Rules};
 ghost use Rattle.h26x_answers.specs.AnswerLaws.{IsCommonAnswered, IsAnswerCommon, OfEachAnswer};
 ghost use Rattle.h26x_answers.specs.AnswersH264 as h264_answers;
 ghost use Rattle.h26x_answers.specs.AllowedH264.{IsH264Answer, MaySend, CanDeinterleaveOwn, is_sets_row};
 ghost use Rattle.h26x_answers.specs.AnsweredAgain.{AreAnsweredAgain};
 ghost use Rattle.h26x_answers.specs.AllowedByLevel.{IsAnswerByLevel, OfEachAllowed, MaySendByLevel};
 ghost use Rattle.h26x_answers.specs.AnswersByLevel.{can_hold};
+ghost use Rattle.h26x_answers.specs.ConfigurationsH264 as h264_said;
+ghost use Rattle.h26x_answers.specs.ConfigurationsH265 as h265_said;
+ghost use Rattle.h26x_answers.specs.ConfigurationsH266 as h266_said;
 ghost use Rattle.h26x_answers.specs.AnswersH265 as h265_answers;
 ghost use Rattle.h26x_answers.specs.AnswersH266 as h266_answers;
 ghost use Rattle.h26x_sdp.specs.H264Rows as h264;
 ghost use Rattle.h26x_sdp.specs.H265Rows as h265;
 ghost use Rattle.h26x_sdp.specs.H266Rows as h266;
 
-/// Of two ends with a configuration in common there is an answer, and each answer is of such a one and
-/// keeps its payload type.
+/// An offer has an answer exactly where one of its formats and one of ours have a configuration in
+/// common, by what both say (RFC 6184, section 8.2.2; RFC 7798, section 7.2.2; RFC 9328, section
+/// 7.3.2); each answer is of such a pair, and keeps the payload type.
 pub fn whom_both_understand_is_found()
-    ensures found { (rules : Rules) (offer : List MediaFormat) (ours : List FormatParameters) →
-        IsCommonAnswered rules offer ours }
-    ensures none { (rules : Rules) (offer : List MediaFormat) (ours : List FormatParameters) →
-        IsAnswerCommon rules offer ours }
+    ensures h264_found { IsCommonAnswered h264_answers.rules h264_said.IsCommon }
+    ensures h264_none { IsAnswerCommon h264_answers.rules h264_said.IsCommon }
+    ensures h265_found { IsCommonAnswered h265_answers.rules h265_said.IsCommon }
+    ensures h265_none { IsAnswerCommon h265_answers.rules h265_said.IsCommon }
+    ensures h266_found { IsCommonAnswered h266_answers.rules h266_said.IsCommon }
+    ensures h266_none { IsAnswerCommon h266_answers.rules h266_said.IsCommon }
+{}
+
+/// An answer says what the offer says and what we can do, the most of it; what it says of our stream
+/// and of us as a receiver is our own.
+pub fn answers_are_by_offer_and_ours()
+    ensures h264 { OfEachAnswer h264_answers.rules h264_said.IsOurAnswer }
+    ensures h265 { OfEachAnswer h265_answers.rules h265_said.IsOurAnswer }
+    ensures h266 { OfEachAnswer h266_answers.rules h266_said.IsOurAnswer }
 {}
 
 /// An answer of H.264 is one that RFC 6184, section 8.2.2, allows of the offered format, and of an

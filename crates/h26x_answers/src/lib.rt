@@ -5,6 +5,9 @@
 #![tactic(auto)]
 
 mod answer;
+mod cases;
+mod fault;
 pub mod laws;
 
 pub use answer::{CodecRules, Format, Role, Terms, answer_format, answer_to};
+pub use fault::FormatFault;

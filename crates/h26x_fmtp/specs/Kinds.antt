@@ -1,10 +1,10 @@
 -- What the values of parameters are.
-use Rattle.std.specs.Prelude.{ℕ, ◌*◌, ◌^◌, ◌==◌, ◌&&◌, ◌||◌, codes, nat_eq, nat_le, nat_lt, Bool, if◌then◌else◌, List, length, Option, Some, None, Result, Ok, Err}
+use Rattle.std.specs.Prelude.{ℕ, ◌*◌, ◌^◌, ◌==◌, ◌&&◌, ◌||◌, codes, nat_le, nat_lt, Bool, if◌then◌else◌, List, length, Option, Some, None, Result, Ok, Err}
 use Rattle.std.specs.List.{list_all}
 use Rattle.std.specs.Result.{result_ok}
 use Rattle.std.specs.Char.{digit_value}
 use Rattle.std.specs.Str.Parse.{digits_value}
-use Rattle.std.specs.Cmp.Lexicographic.{pointwise}
+use Rattle.h26x_fmtp.specs.Tables.{same_name}
 use Rattle.h26x_fmtp.specs.declared.kind.Kind.{Kind}
 use Rattle.h26x_fmtp.specs.declared.unit_types.UnitTypes.{UnitTypes}
 use Rattle.h26x_fmtp.specs.declared.kind.Kind.TheVariants.{Number, HexadecimalNumber, Hexadecimal, TxMode, Units, Text}
@@ -34,10 +34,10 @@ range_fault least most (Err fault) = Some fault
 range_fault least most (Ok number) =
     if nat_le least number && nat_le number most then None else Some OutOfRange
 
--- whether a text is one of the modes of RFC 7798, section 7.1
+-- whether a text is one of the modes of RFC 7798, section 7.1, in either case (RFC 5234, section 2.3)
 abbrev pub is_tx_mode : List ℕ → Bool
-is_tx_mode text = (pointwise nat_eq text (codes "SRST") || pointwise nat_eq text (codes "MRST"))
-    || pointwise nat_eq text (codes "MRMT")
+is_tx_mode text = (same_name (codes "SRST") text || same_name (codes "MRST") text)
+    || same_name (codes "MRMT") text
 
 -- what is wrong with a value of a kind
 abbrev pub fault_in : Kind → List ℕ → Option Fault

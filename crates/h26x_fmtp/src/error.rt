@@ -12,7 +12,7 @@ pub enum Fault {
     OutOfRange,
     /// The value isn't hexadecimal digits, or not as many as the parameter has.
     NotHexadecimal,
-    /// The value is none of `SRST`, `MRST` and `MRMT`.
+    /// The value is none of `SRST`, `MRST` and `MRMT`, in either case.
     NotTxMode,
     /// A parameter of this name stands before it.
     Twice,

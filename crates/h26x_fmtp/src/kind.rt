@@ -4,6 +4,7 @@ ghost use Rattle.std.specs.Prelude.{◌≡◌, ◌≤◌};
 ghost use Rattle.h26x_fmtp.specs.Kinds as spec;
 
 use crate::error::Fault;
+use crate::names::same_name;
 use crate::unit_types::UnitTypes;
 use std::str;
 
@@ -16,7 +17,7 @@ pub enum Kind {
     HexadecimalNumber { most: u64 },
     /// So many bytes, each by two hexadecimal digits in either case.
     Hexadecimal { bytes: u8 },
-    /// `SRST`, `MRST` or `MRMT` (RFC 7798, section 7.1).
+    /// `SRST`, `MRST` or `MRMT`, in either case (RFC 7798, section 7.1).
     TxMode,
     /// NAL units of these types in base64, with `,` between them, which `units` looks into.
     Units(UnitTypes),
@@ -110,12 +111,11 @@ impl Kind {
     }
 }
 
-/// Whether a text is one of the modes of RFC 7798, section 7.1.
+/// Whether a text is one of the modes of RFC 7798, section 7.1, in either case.
 fn is_tx_mode(text: &[u8]) -> bool
     ensures { result ≡ spec.is_tx_mode text.now }
 {
-    let (single, many, many_transports) = (b"SRST", b"MRST", b"MRMT");
-    text == single.as_slice() || text == many.as_slice() || text == many_transports.as_slice()
+    same_name(b"SRST", text) || same_name(b"MRST", text) || same_name(b"MRMT", text)
 }
 
 /// Whether each byte of a text is a digit, in either case.

@@ -5,9 +5,11 @@
 //! The definitions that contracts cite stand in `specs/`.
 #![tactic(auto)]
 
+mod cases;
 mod error;
 pub mod kind;
 pub mod laws;
+mod names;
 mod pairs;
 pub mod parameters;
 mod rtp_map;
@@ -17,9 +19,10 @@ mod units;
 
 pub use error::{Fault, ParametersError, UnitsError};
 pub use kind::{Kind, number_in};
+pub use names::same_name;
 pub use pairs::{Pair, Pairs, closes, cut, pairs_of, push_pair, trimmed};
 pub use parameters::{FormatParameters, OtherParameter};
 pub use rtp_map::{Encoding, RtpMap, RtpMapError};
-pub use table::{ParameterRow, row_of, same_name};
+pub use table::{ParameterRow, row_of};
 pub use unit_types::UnitTypes;
 pub use units::{read_units, split_piece, write_units};

@@ -4,8 +4,8 @@ ghost use Rattle.std.specs.Prelude.{◌≡◌, IfOk};
 ghost use Rattle.h26x_fmtp.specs.RtpMaps as spec;
 
 use crate::kind::number_in;
+use crate::names::same_name;
 use crate::pairs::{cut, trimmed};
-use crate::table::same_name;
 use std::alloc::{AllocError, Global};
 use thiserror::Error;
 

@@ -5,6 +5,7 @@ ghost use Rattle.h26x_fmtp.specs.Tables as spec;
 ghost use Rattle.h26x_fmtp.specs.TableViews.{row_view};
 
 use crate::kind::Kind;
+use crate::names::same_name;
 
 /// A parameter of a format: its name, in lower case, what its value is, and what is taken for it where
 /// it's absent.
@@ -16,13 +17,6 @@ pub struct ParameterRow {
     pub kind: Kind,
     /// The value where the parameter is absent, if the RFC gives one.
     pub default: Option<&'static [u8]>,
-}
-
-/// Whether two names are one, without regard to case (RFC 4855, section 3).
-pub fn same_name(a: &[u8], b: &[u8]) -> bool
-    ensures { result ≡ spec.same_name a.now b.now }
-{
-    a.eq_ignore_ascii_case(b)
 }
 
 /// The place of the first row with a name, without regard to case, and its kind; `None` where no row

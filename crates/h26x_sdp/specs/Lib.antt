@@ -5,5 +5,6 @@ pub mod LevelSets
 pub mod LevelSetsViews
 pub mod CapabilityPoints
 pub mod CapabilityPointsViews
+pub mod TableNumbers
 pub mod Constraints
 pub mod ConstraintsViews

@@ -36,8 +36,8 @@ pub enum H265Parameter {
     /// `max-recv-level-id`: the highest level that is received, 30 times the level. Where it's
     /// absent, `level-id`.
     MaxRecvLevelId,
-    /// `tx-mode`: `SRST`, `MRST` or `MRMT`: one or more RTP streams, over one or more transports.
-    /// Where it's absent `SRST`.
+    /// `tx-mode`: `SRST`, `MRST` or `MRMT`, in either case: one or more RTP streams, over one or more
+    /// transports. Where it's absent `SRST`.
     TxMode,
     /// `sprop-vps`: video parameter sets in base64, with `,` between them.
     SpropVps,

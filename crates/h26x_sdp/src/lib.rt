@@ -6,6 +6,7 @@
 #![tactic(auto)]
 
 mod capability_points;
+mod cases;
 mod codec;
 mod constraints;
 mod error;

@@ -21,7 +21,7 @@ use Rattle.h26x_fmtp.specs.Kinds.{unit_types}
 use Rattle.h26x_fmtp.specs.Written.{written}
 use Rattle.h26x_fmtp.specs.Units.{sprop_units_at}
 use Rattle.h26x_fmtp.specs.UnitsViews.{units_view}
-use Rattle.h26x_answers.specs.Answers.{Rules, answer_by}
+use Rattle.h26x_answers.specs.Answers.{Rules, allowed_answer}
 use Rattle.h26x_answers.specs.AnswersH264 as h264_answers
 use Rattle.h26x_answers.specs.AnswersH265 as h265_answers
 use Rattle.h26x_answers.specs.AnswersH266 as h266_answers
@@ -87,7 +87,7 @@ OfPayloadUnits codec payload Holds =
 
 -- the answer to an offered format by one of ours, or that there is none
 abbrev pub answer_or_code : Rules → FormatParameters → FormatParameters → Result FormatParameters ℕ
-answer_or_code rules offered ours = ok_or (answer_by rules offered ours) no_answer
+answer_or_code rules offered ours = ok_or (allowed_answer rules offered ours) no_answer
 
 -- the same by their codec: of two codecs there is none
 abbrev pub sdp_answer : SdpEndpoint → SdpEndpoint → Result SdpEndpoint ℕ

@@ -1,7 +1,7 @@
 //! Format parameters of SDP, with their codec.
 
 ghost use Rattle.std.specs.Prelude.{◌≡◌, ◌⊎◌, Ok, Err, Some, None, IfOk, map};
-ghost use Rattle.h26x_answers.specs.Answers.{answer_by, rules_of};
+ghost use Rattle.h26x_answers.specs.Answers.{rules_of};
 ghost use Rattle.h26x_fmtp.specs.ParametersViews.{other_view};
 ghost use Rattle.h26x_codes.specs.Codes as codes;
 ghost use Rattle.h26x_sdp_handles.specs.SdpCodes.{no_answer};
@@ -89,7 +89,7 @@ fn answer_of<P: ListedParameter>(
     ours: &KeptParameters<P>,
 ) -> Result<KeptParameters<P>, u32>
     ensures { spec.IsOrOutOfMemory result
-        (spec.answer_or_code (rules_of P.rows P.roles P.terms) offered.now ours.now) }
+        (spec.answer_or_code (rules_of P.rows P.roles P.terms P.known P.fault) offered.now ours.now) }
 {
     match answer_format(
         alloc,

@@ -1,7 +1,7 @@
 -- What a stream says of itself: the parameters that the sets before its first slice give (RFC 6184,
 -- section 8.1; RFC 7798, section 7.1; RFC 9328, section 7.2).
-use Rattle.std.specs.Prelude.{ℕ, ◌+◌, ◌==◌, nat_le, Bool, ◌&&◌, if◌then◌else◌, List, [], ◌∷◌, length, take, drop, slice_index, decimal, Option, Some, None, Result, Ok, Err}
-use Rattle.hex.specs.Hex.{encode_upper}
+use Rattle.std.specs.Prelude.{ℕ, ◌+◌, ◌==◌, nat_le, Bool, ◌&&◌, if◌then◌else◌, List, [], ◌∷◌, length, take, drop, slice_index, decimal, codes, Option, Some, None, Result, Ok, Err}
+use Rattle.hex.specs.Hex.{encode_lower}
 use Rattle.h26x_core.specs.Word.{field}
 use Rattle.h26x_core.specs.H265Unit as h265_unit
 use Rattle.h26x_core.specs.H266Unit as h266_unit
@@ -97,9 +97,12 @@ said_by parameters (Ok bytes) = Ok (parameters bytes)
 abbrev pub h264_profile : List (List ℕ) → Result (List ℕ) StreamError
 h264_profile units = set_bytes 1 3 (first_set (one_type H264 7) units)
 
+-- in packets as packetizers send them there are fragments and aggregates, which is non-interleaved mode
+-- (RFC 6184, section 6.3)
 abbrev pub h264_with_profile : List ℕ → FormatParameters → FormatParameters
 h264_with_profile profile it =
-    with_one (h264_rows.row_place h264.ProfileLevelId) (encode_upper profile) it
+    with_one (h264_rows.row_place h264.PacketizationMode) (codes "1")
+    (with_one (h264_rows.row_place h264.ProfileLevelId) (encode_lower profile) it)
 
 abbrev pub h264_of_units : List (List ℕ) → Result FormatParameters StreamError
 h264_of_units units =
@@ -126,8 +129,8 @@ h265_profile units = h265_profile_in (first_set h265_sps units) (first_set h265_
 abbrev pub h265_with_profile : List ℕ → FormatParameters → FormatParameters
 h265_with_profile profile it =
     with_one (h265_rows.row_place h265.ProfileCompatibilityIndicator)
-    (encode_upper (take 4 (drop 1 profile)))
-    (with_one (h265_rows.row_place h265.InteropConstraints) (encode_upper (take 6 (drop 5 profile)))
+    (encode_lower (take 4 (drop 1 profile)))
+    (with_one (h265_rows.row_place h265.InteropConstraints) (encode_lower (take 6 (drop 5 profile)))
     (with_one (h265_rows.row_place h265.LevelId) (decimal (slice_index profile 11))
     (with_one (h265_rows.row_place h265.TierFlag) (decimal (field (slice_index profile 0) 5 5))
     (with_one (h265_rows.row_place h265.ProfileId) (decimal (field (slice_index profile 0) 4 0))

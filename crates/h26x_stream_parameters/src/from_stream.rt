@@ -4,7 +4,7 @@
 ghost use Rattle.std.specs.Prelude.{◌≡◌, ◌<◌, ◌≤◌, ℕ, List, Ok, IfOk, OnOk, length, drop, decimal};
 ghost use Rattle.h26x_cut.specs.Cutting.{AreUnits};
 ghost use Rattle.h26x_cut.specs.declared.ZeroRule.TheVariants.{All, AtMostThree};
-ghost use Rattle.hex.specs.Hex.{encode_upper};
+ghost use Rattle.hex.specs.Hex.{encode_lower};
 ghost use Rattle.h26x_stream_parameters.specs.FromStream as spec;
 ghost use Rattle.h26x_stream_parameters.specs.FromStreamViews.{slices_view, SaysOfStream, SaysOfSet};
 ghost use Rattle.h26x_fmtp.specs.ParametersViews.{slice_view};
@@ -124,11 +124,11 @@ fn set_bytes(
     Ok(bytes)
 }
 
-/// Bytes by two hexadecimal digits each.
+/// Bytes by two hexadecimal digits each, in lower case, as peers write them.
 fn base16(alloc: Global, bytes: &[u8]) -> Result<Vec<u8>, AllocError>
-    ensures { IfOk result (λ text. text.items ≡ encode_upper bytes.now) }
+    ensures { IfOk result (λ text. text.items ≡ encode_lower bytes.now) }
 {
-    Ok(hex::encode_upper(alloc, bytes)?.into_bytes())
+    Ok(hex::encode(alloc, bytes)?.into_bytes())
 }
 
 /// A number by its decimal digits.
@@ -165,7 +165,8 @@ fn h264_profile(alloc: Global, units: &[&[u8]]) -> Result<Vec<u8>, StreamError>
     set_bytes(alloc, 1, 3, first_set(H264_SPS, units))
 }
 
-/// Gives parameters what those three bytes say.
+/// Gives parameters what those three bytes say, and the mode of packets as packetizers send them: they
+/// have fragments and aggregates.
 fn h264_put_profile(
     alloc: Global,
     it: &mut H264Parameters,
@@ -174,11 +175,16 @@ fn h264_put_profile(
     ensures { OnOk result (it.new ≡ spec.h264_with_profile profile.now it.old) }
 {
     it.put(H264Parameter::ProfileLevelId, base16(alloc, profile)?);
+    it.put(
+        H264Parameter::PacketizationMode,
+        Vec::from_slice(alloc, b"1")?,
+    );
     Ok(())
 }
 
 /// The parameters of H.264 that a sender says of its stream, out of the units that it begins with:
-/// `profile-level-id` and `sprop-parameter-sets` (RFC 6184, section 8.1).
+/// `profile-level-id`, `sprop-parameter-sets` and `packetization-mode=1`, which packetizers need (RFC
+/// 6184, sections 6.3 and 8.1).
 ///
 /// The sets are those before the first slice, and the first SPS says profile and level: that the
 /// others say the same is for the caller to see. Where no SPS is there or it's too short for its

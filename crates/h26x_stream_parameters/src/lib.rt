@@ -5,6 +5,7 @@
 //! The definitions that contracts cite stand in `specs/`.
 #![tactic(auto)]
 
+mod cases;
 mod error;
 mod from_stream;
 mod single_units;

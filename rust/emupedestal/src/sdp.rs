@@ -54,7 +54,7 @@ pub use crate::proved::h26x_sdp::{
 pub use crate::proved::h26x_sdp::{ConstraintsError, LevelSetsError};
 pub use crate::proved::h26x_stream_parameters::{StreamError, fits_single_units};
 pub use answer::{Format, OutOfMemory};
-pub use fault::SetError;
+pub use fault::{BrokenRule, SetError};
 pub use h264::H264Parameters;
 pub use h265::H265Parameters;
 pub use h266::H266Parameters;

@@ -128,12 +128,12 @@ class FormatParameters(Owner):
     @classmethod
     def of_payload(cls, codec: int, payload: Buffer) -> FormatParameters:
         """What a sender says of its stream, of the bytes that it begins with (Annex B): profile, tier and
-        level of the first SPS, and the sets before the first slice. Raises a StreamError, UnknownCodec
-        or OutOfMemory.
+        level of the first SPS, and the sets before the first slice; of H.264 packetization-mode=1 too, as
+        packetizers send. Raises a StreamError, UnknownCodec or OutOfMemory.
 
         >>> sets = bytes.fromhex("000001 6742c01f 000001 68ce")
         >>> str(FormatParameters.of_payload(Codec.H264, sets))
-        'profile-level-id=42C01F;sprop-parameter-sets=Z0LAHw==,aM4='
+        'profile-level-id=42c01f;sprop-parameter-sets=Z0LAHw==,aM4=;packetization-mode=1'
         """
         known, data, made = codec_of(codec), as_bytes(payload), Handle()
         check(library.h26x_sdp_of_payload(known, data, len(data), byref(made)))
@@ -311,8 +311,9 @@ class FormatParameters(Owner):
 
     def answer(self, *ours: FormatParameters) -> Optional[FormatParameters]:
         """The answer to these parameters of an offer, by the first of ours that gives one; None where none
-        does. It is for both directions, and for unicast (RFC 6184, 8.2.2; RFC 7798, 7.2.2; RFC 9328, 7.3.2).
-        Raises OutOfMemory.
+        does, as where the standard has no such profile or level. One of ours that its RFC forbids, as a
+        max-fs below the level's, gives none. It is for both directions, and for unicast (RFC 6184, 8.2.2;
+        RFC 7798, 7.2.2; RFC 9328, 7.3.2). Raises OutOfMemory.
 
         To answer an offer, go through its formats in their order: the first that is answered gives the
         answer, with its payload type (RFC 3264, 6.1)."""

@@ -104,7 +104,7 @@ fn lower_highest<'a, P: CodecParameter>(
 }
 
 /// Whether a number is there, and positive.
-fn is_positive(number: Option<u64>) -> bool
+pub(crate) fn is_positive(number: Option<u64>) -> bool
     ensures { result ≡ spec.is_positive number }
 {
     match number {

@@ -7,7 +7,8 @@ ghost use Rattle.h26x_answers.specs.AnswersH264 as spec;
 ghost use Rattle.h26x_answers.specs.AnswersViews.{terms_view};
 ghost use Rattle.h26x_fmtp.specs.ParametersViews.{value_view};
 
-use crate::answer::{CodecRules, Role, Terms, copy_of, holds, same_number};
+use crate::answer::{CodecRules, Role, Terms, copy_of, holds, own_h264, same_number};
+use crate::fault::FormatFault;
 use h26x_profile::{H264LevelIdc, H264Profile, H264ProfileIdc, H264ProfileLevel};
 use h26x_sdp::{H264Parameter, H264Parameters};
 use hex::FromHex;
@@ -104,7 +105,7 @@ impl ProfileLevelId {
     }
 
     /// Twice level_idc, by which levels are ordered; level 1b stands between 1 and 1.1.
-    fn level_rank(self) -> u16
+    pub(crate) fn level_rank(self) -> u16
         ensures { result ≡ spec.level_rank self }
     {
         if self.is_1b() {
@@ -175,7 +176,7 @@ fn same_sub_profile(a: Option<H264Profile>, b: Option<H264Profile>) -> bool
 }
 
 /// The level that the two bytes of a `max-recv-level` say, as `level_rank`.
-fn recv_rank(text: &[u8]) -> u16
+pub(crate) fn recv_rank(text: &[u8]) -> u16
     ensures { result ≡ spec.recv_rank text.now }
 {
     match <[u8; 2] as FromHex>::from_hex(text) {
@@ -203,7 +204,7 @@ fn is_on(it: &H264Parameters, parameter: H264Parameter) -> bool
 }
 
 /// The `profile-level-id` of parameters, or its default.
-fn id_of(it: &H264Parameters) -> Option<ProfileLevelId>
+pub(crate) fn id_of(it: &H264Parameters) -> Option<ProfileLevelId>
     ensures { result ≡ spec.id_of it.now }
 {
     ProfileLevelId::read(it.value_or_default(H264Parameter::ProfileLevelId)?)
@@ -220,7 +221,7 @@ fn highest_rank(it: &H264Parameters, id: ProfileLevelId) -> u16
 }
 
 /// Whether units are interleaved.
-fn is_interleaved(it: &H264Parameters) -> bool
+pub(crate) fn is_interleaved(it: &H264Parameters) -> bool
     ensures { result ≡ spec.is_interleaved it.now }
 {
     same_number(
@@ -358,6 +359,10 @@ impl CodecRules for H264Parameter {
 
     ghost terms = { spec.terms };
 
+    ghost known = { spec.known };
+
+    ghost fault = { spec.fault };
+
     fn roles() -> &'static [Role] {
         &ROLES
     }
@@ -368,5 +373,13 @@ impl CodecRules for H264Parameter {
         own: &H264Parameters,
     ) -> Result<Option<Terms>, AllocError> {
         terms(alloc, offered, own)
+    }
+
+    fn is_known(it: &H264Parameters) -> bool {
+        own_h264::is_known(it)
+    }
+
+    fn fault(own: &H264Parameters) -> Option<FormatFault> {
+        own_h264::fault(own)
     }
 }

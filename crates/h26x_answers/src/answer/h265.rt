@@ -7,7 +7,8 @@ ghost use Rattle.h26x_answers.specs.AnswersH265 as spec;
 ghost use Rattle.h26x_answers.specs.AnswersViews.{terms_view};
 
 use crate::answer::by_level::{LevelParameters, terms_by_level};
-use crate::answer::{CodecRules, Role, Terms, same_number};
+use crate::answer::{CodecRules, Role, Terms, own_h265, same_number};
+use crate::fault::FormatFault;
 use h26x_sdp::{H265Parameter, H265Parameters};
 use hex::FromHex;
 use std::alloc::{AllocError, Global};
@@ -110,10 +111,15 @@ fn terms(
 
 impl CodecRules for H265Parameter {
     ghost use Rattle.h26x_answers.specs.AnswersH265 as spec;
+    ghost use Rattle.h26x_answers.specs.OwnH265 as own;
 
     ghost roles = { spec.roles };
 
     ghost terms = { spec.terms };
+
+    ghost known = { own.known };
+
+    ghost fault = { own.fault };
 
     fn roles() -> &'static [Role] {
         &ROLES
@@ -125,5 +131,13 @@ impl CodecRules for H265Parameter {
         own: &H265Parameters,
     ) -> Result<Option<Terms>, AllocError> {
         terms(alloc, offered, own)
+    }
+
+    fn is_known(it: &H265Parameters) -> bool {
+        own_h265::is_known(it)
+    }
+
+    fn fault(own: &H265Parameters) -> Option<FormatFault> {
+        own_h265::fault(own)
     }
 }

@@ -6,7 +6,8 @@ ghost use Rattle.h26x_answers.specs.AnswersH266 as spec;
 ghost use Rattle.h26x_answers.specs.AnswersViews.{terms_view};
 
 use crate::answer::by_level::{LevelParameters, terms_by_level};
-use crate::answer::{CodecRules, Role, Terms, same_if_given, same_number};
+use crate::answer::{CodecRules, Role, Terms, own_h266, same_if_given, same_number};
+use crate::fault::FormatFault;
 use h26x_fmtp::Kind;
 use h26x_fmtp::unit_types::H266_VPS;
 use h26x_sdp::{H266Parameter, H266Parameters};
@@ -97,10 +98,15 @@ fn terms(
 
 impl CodecRules for H266Parameter {
     ghost use Rattle.h26x_answers.specs.AnswersH266 as spec;
+    ghost use Rattle.h26x_answers.specs.OwnH266 as own;
 
     ghost roles = { spec.roles };
 
     ghost terms = { spec.terms };
+
+    ghost known = { own.known };
+
+    ghost fault = { own.fault };
 
     fn roles() -> &'static [Role] {
         &ROLES
@@ -112,5 +118,13 @@ impl CodecRules for H266Parameter {
         own: &H266Parameters,
     ) -> Result<Option<Terms>, AllocError> {
         terms(alloc, offered, own)
+    }
+
+    fn is_known(it: &H266Parameters) -> bool {
+        own_h266::is_known(it)
+    }
+
+    fn fault(own: &H266Parameters) -> Option<FormatFault> {
+        own_h266::fault(own)
     }
 }

@@ -5,6 +5,8 @@
 //!
 //! The definitions that contracts cite stand in `specs/`.
 mod answer;
+mod fault;
 
 pub use answer::{CodecRules, Format, Role, Terms};
 pub(crate) use answer::{answer_format, answer_to};
+pub use fault::FormatFault;

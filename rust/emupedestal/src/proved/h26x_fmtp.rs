@@ -5,8 +5,10 @@
 //! kinds of their values, NAL units in base64, and what stands in an `a=rtpmap` line.
 //!
 //! The definitions that contracts cite stand in `specs/`.
+mod cases;
 mod error;
 pub mod kind;
+mod names;
 mod pairs;
 pub mod parameters;
 mod rtp_map;
@@ -16,11 +18,12 @@ mod units;
 
 pub use error::{Fault, ParametersError, UnitsError};
 pub use kind::{Kind, number_in};
+pub use names::same_name;
 pub(crate) use pairs::push_pair;
 pub use pairs::{Pair, Pairs, closes, cut, pairs_of, trimmed};
 pub use parameters::{FormatParameters, OtherParameter};
 pub use rtp_map::{Encoding, RtpMap, RtpMapError};
-pub use table::{ParameterRow, row_of, same_name};
+pub use table::{ParameterRow, row_of};
 pub use unit_types::UnitTypes;
 pub(crate) use units::write_units;
 pub use units::{read_units, split_piece};

@@ -1,10 +1,5 @@
 // Made from crates/h26x_stream_parameters/src/lib.rt by tools/to-rust.
 
-//! The format parameters that a stream says of itself (RFC 6184, section 8.1; RFC 7798, section 7.1;
-//! RFC 9328, section 7.2): profile and level and its parameter sets, and whether its units can be sent
-//! in single NAL unit packets alone.
-//!
-//! The definitions that contracts cite stand in `specs/`.
 mod error;
 mod from_stream;
 mod single_units;

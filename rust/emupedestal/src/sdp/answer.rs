@@ -1,7 +1,7 @@
 //! Answers to offers.
 
-use super::{CodecParameters, Parameter};
-use crate::proved::h26x_answers::answer_format;
+use super::{BrokenRule, CodecParameters, Parameter};
+use crate::proved::h26x_answers::{FormatFault, answer_format};
 use crate::support::AllocError;
 use core::error::Error;
 use core::fmt;
@@ -40,7 +40,8 @@ impl<P: Parameter> CodecParameters<P> {
     ///
     /// Profile, packetization mode and what else is of both directions are as offered and as ours; the level is the
     /// lower one, or our own where both ends allow each direction its own; the rest is ours. What each end may send
-    /// then fits what the other said that it receives.
+    /// then fits what the other said that it receives. An offer of a profile or level that the standard hasn't has no
+    /// answer, and one of ours with a [`broken_rule`](Self::broken_rule) gives none.
     ///
     /// ```
     /// use emupedestal::sdp::H264Parameters;
@@ -63,6 +64,25 @@ impl<P: Parameter> CodecParameters<P> {
             }
         }
         Ok(None)
+    }
+
+    /// The first rule of its RFC that these parameters break as a format of one's own, if they break one.
+    ///
+    /// ```
+    /// use emupedestal::sdp::{BrokenRule, H264Parameter, H264Parameters};
+    ///
+    /// let own: H264Parameters = "profile-level-id=42e01f;max-fs=99".parse()?;
+    /// assert_eq!(own.broken_rule(), Some(BrokenRule::BelowLevel(H264Parameter::MaxFs))); // 3600 at level 3.1
+    /// # Ok::<(), emupedestal::sdp::ParametersError>(())
+    /// ```
+    pub fn broken_rule(&self) -> Option<BrokenRule<P>> {
+        Some(match P::fault(&self.of)? {
+            FormatFault::Profile => BrokenRule::Profile,
+            FormatFault::Level => BrokenRule::Level,
+            FormatFault::HighestLevel => BrokenRule::HighestLevel,
+            FormatFault::BelowLevel { place } => BrokenRule::BelowLevel(*P::all().get(place)?),
+            FormatFault::Reordering => BrokenRule::Reordering,
+        })
     }
 }
 

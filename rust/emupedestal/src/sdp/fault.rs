@@ -34,3 +34,35 @@ impl From<AllocError> for SetError {
         SetError::OutOfMemory
     }
 }
+
+/// A rule of its RFC that a format of one's own breaks, for which it gives no answer: what
+/// [`broken_rule`](super::CodecParameters::broken_rule) tells (RFC 6184, section 8.1; RFC 7798, section 7.1; RFC 9328,
+/// section 7.2).
+#[derive(Debug, Clone, Copy, PartialEq, Eq, Hash)]
+#[non_exhaustive]
+pub enum BrokenRule<P> {
+    /// The standard has no such profile.
+    Profile,
+    /// The standard has no such level.
+    Level,
+    /// The highest level that is received isn't above the level, or the standard has no such level.
+    HighestLevel,
+    /// This parameter is below what the highest level asks for.
+    BelowLevel(P),
+    /// What is said of packets out of order stands where there are none, or is absent where there are.
+    Reordering,
+}
+
+impl<P: fmt::Display> fmt::Display for BrokenRule<P> {
+    fn fmt(&self, f: &mut fmt::Formatter<'_>) -> fmt::Result {
+        match self {
+            BrokenRule::Profile => write!(f, "the standard has no such profile"),
+            BrokenRule::Level => write!(f, "the standard has no such level"),
+            BrokenRule::HighestLevel => write!(f, "the highest level isn't one above the level"),
+            BrokenRule::BelowLevel(it) => write!(f, "{it} is below what the level asks for"),
+            BrokenRule::Reordering => write!(f, "what is said of packets out of order doesn't fit"),
+        }
+    }
+}
+
+impl<P: fmt::Debug + fmt::Display> Error for BrokenRule<P> {}

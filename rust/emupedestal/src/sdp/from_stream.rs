@@ -43,13 +43,13 @@ from_stream!(
     H264Parameter,
     h264_of_units,
     h264_of_payload,
-    "`profile-level-id` and `sprop-parameter-sets`",
+    "`profile-level-id`, `sprop-parameter-sets`, and `packetization-mode=1`, as packetizers send",
     "RFC 6184, section 8.1",
     r#"use emupedestal::sdp::H264Parameters;
 
 let stream = [0, 0, 1, 0x67, 0x42, 0xc0, 0x1f, 0, 0, 1, 0x68, 0xce, 0, 0, 1, 0x65, 0x88];
 let format = H264Parameters::of_payload(&stream)?;
-assert_eq!(format.to_string(), "profile-level-id=42C01F;sprop-parameter-sets=Z0LAHw==,aM4=");"#
+assert_eq!(format.to_string(), "profile-level-id=42c01f;sprop-parameter-sets=Z0LAHw==,aM4=;packetization-mode=1");"#
 );
 
 from_stream!(

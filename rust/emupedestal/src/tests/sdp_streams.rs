@@ -16,8 +16,8 @@ fn payload(units: &[Vec<u8>]) -> Vec<u8> {
 fn streams_of_h264() {
     let slice = bytes("65 88 84");
     for (id, sets) in [
-        ("42C00A", "Z0LACtkJbARAAAADAEAAAAyDxImS,aMuBEsg="),
-        ("64001F", "Z2QAH6zZQUH7ARAAAAMAEAAAAwMg8YMZYA==,aOvjyyLA"),
+        ("42c00a", "Z0LACtkJbARAAAADAEAAAAyDxImS,aMuBEsg="),
+        ("64001f", "Z2QAH6zZQUH7ARAAAAMAEAAAAwMg8YMZYA==,aOvjyyLA"),
     ] {
         let units = [
             read_units(sets).unwrap(),
@@ -26,7 +26,8 @@ fn streams_of_h264() {
         .concat();
         let slices: Vec<&[u8]> = units.iter().map(Vec::as_slice).collect();
         let format = H264Parameters::of_units(&slices).unwrap();
-        let wanted = format!("profile-level-id={id};sprop-parameter-sets={sets}");
+        let wanted =
+            format!("profile-level-id={id};sprop-parameter-sets={sets};packetization-mode=1");
         assert_eq!(format.to_string(), wanted);
         assert_eq!(H264Parameters::of_payload(&payload(&units)), Ok(format));
     }

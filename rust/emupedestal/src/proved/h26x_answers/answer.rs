@@ -7,7 +7,11 @@ pub(crate) mod by_level;
 pub(crate) mod h264;
 pub(crate) mod h265;
 pub(crate) mod h266;
+pub(crate) mod own_h264;
+pub(crate) mod own_h265;
+pub(crate) mod own_h266;
 
+use crate::proved::h26x_answers::fault::FormatFault;
 use crate::proved::h26x_fmtp::{FormatParameters, Kind, OtherParameter, ParameterRow, same_name};
 use crate::proved::h26x_sdp::{CodecParameter, CodecParameters};
 use crate::support::AllocError;
@@ -52,6 +56,12 @@ pub trait CodecRules: CodecParameter {
         offered: &CodecParameters<Self>,
         own: &CodecParameters<Self>,
     ) -> Result<Option<Terms>, AllocError>;
+
+    /// Whether a format's profile and level are those of a table.
+    fn is_known(it: &CodecParameters<Self>) -> bool;
+
+    /// The first rule of its RFC that a format of one's own breaks, if it breaks one.
+    fn fault(own: &CodecParameters<Self>) -> Option<FormatFault>;
 }
 
 /// What two formats of one configuration agree on.
@@ -107,8 +117,8 @@ fn same_value(kind: Kind, a: &[u8], b: &[u8]) -> bool {
         Kind::Number { .. } | Kind::HexadecimalNumber { .. } => {
             same_number(kind.number_of(a), kind.number_of(b))
         }
-        Kind::Hexadecimal { .. } => same_name(a, b),
-        Kind::TxMode | Kind::Units(_) | Kind::Text => a == b,
+        Kind::Hexadecimal { .. } | Kind::TxMode => same_name(a, b),
+        Kind::Units(_) | Kind::Text => a == b,
     }
 }
 
@@ -284,15 +294,28 @@ fn answer_by<P: CodecRules>(
     }
 }
 
+/// The answer to an offered format of a profile and a level that a table has, by one of ours that
+/// breaks no rule of its RFC.
+fn allowed_answer<P: CodecRules>(
+    offered: &CodecParameters<P>,
+    own: &CodecParameters<P>,
+) -> Result<Option<CodecParameters<P>>, AllocError> {
+    if !P::is_known(offered) || P::fault(own).is_some() {
+        return Ok(None);
+    }
+    answer_by(offered, own)
+}
+
 /// The answer to the parameters of an offered format, by the first of ours that gives one; `None` where
-/// none does. It is for both directions, and for unicast (RFC 6184, section 8.2.2; RFC 7798, section
-/// 7.2.2; RFC 9328, section 7.3.2).
+/// none does, and where the standard has no such profile or level. One of ours that breaks a rule of
+/// its RFC gives none (`fault` of [`CodecRules`] tells it). It is for both directions, and for unicast
+/// (RFC 6184, section 8.2.2; RFC 7798, section 7.2.2; RFC 9328, section 7.3.2).
 pub(crate) fn answer_format<P: CodecRules>(
     offered: &CodecParameters<P>,
     ours: &[CodecParameters<P>],
 ) -> Result<Option<CodecParameters<P>>, AllocError> {
     for own in ours {
-        if let Some(answer) = answer_by(offered, own)? {
+        if let Some(answer) = allowed_answer(offered, own)? {
             return Ok(Some(answer));
         }
     }

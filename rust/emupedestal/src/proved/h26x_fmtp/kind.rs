@@ -3,6 +3,7 @@
 //! What the value of a parameter is.
 
 use crate::proved::h26x_fmtp::error::Fault;
+use crate::proved::h26x_fmtp::names::same_name;
 use crate::proved::h26x_fmtp::unit_types::UnitTypes;
 use core::str;
 
@@ -15,7 +16,7 @@ pub enum Kind {
     HexadecimalNumber { most: u64 },
     /// So many bytes, each by two hexadecimal digits in either case.
     Hexadecimal { bytes: u8 },
-    /// `SRST`, `MRST` or `MRMT` (RFC 7798, section 7.1).
+    /// `SRST`, `MRST` or `MRMT`, in either case (RFC 7798, section 7.1).
     TxMode,
     /// NAL units of these types in base64, with `,` between them, which `units` looks into.
     Units(UnitTypes),
@@ -103,10 +104,9 @@ impl Kind {
     }
 }
 
-/// Whether a text is one of the modes of RFC 7798, section 7.1.
+/// Whether a text is one of the modes of RFC 7798, section 7.1, in either case.
 fn is_tx_mode(text: &[u8]) -> bool {
-    let (single, many, many_transports) = (b"SRST", b"MRST", b"MRMT");
-    text == single.as_slice() || text == many.as_slice() || text == many_transports.as_slice()
+    same_name(b"SRST", text) || same_name(b"MRST", text) || same_name(b"MRMT", text)
 }
 
 /// Whether each byte of a text is a digit, in either case.

@@ -3,8 +3,8 @@
 //! The value of an `a=rtpmap` line.
 
 use crate::proved::h26x_fmtp::kind::number_in;
+use crate::proved::h26x_fmtp::names::same_name;
 use crate::proved::h26x_fmtp::pairs::{cut, trimmed};
-use crate::proved::h26x_fmtp::table::same_name;
 use crate::support::AllocError;
 use alloc::vec::Vec;
 

@@ -3,6 +3,7 @@
 //! Tables of parameters.
 
 use crate::proved::h26x_fmtp::kind::Kind;
+use crate::proved::h26x_fmtp::names::same_name;
 
 /// A parameter of a format: its name, in lower case, what its value is, and what is taken for it where
 /// it's absent.
@@ -26,11 +27,6 @@ impl core::fmt::Debug for ParameterRow {
             .field("default", &self.default)
             .finish()
     }
-}
-
-/// Whether two names are one, without regard to case (RFC 4855, section 3).
-pub fn same_name(a: &[u8], b: &[u8]) -> bool {
-    a.eq_ignore_ascii_case(b)
 }
 
 /// The place of the first row with a name, without regard to case, and its kind; `None` where no row

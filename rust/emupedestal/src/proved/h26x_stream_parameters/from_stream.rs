@@ -97,9 +97,9 @@ fn set_bytes(header: usize, many: usize, set: Option<&[u8]>) -> Result<Vec<u8>, 
     Ok(bytes)
 }
 
-/// Bytes by two hexadecimal digits each.
+/// Bytes by two hexadecimal digits each, in lower case, as peers write them.
 fn base16(bytes: &[u8]) -> Result<Vec<u8>, AllocError> {
-    Ok(crate::support::hex::encode_upper(bytes)?.into_bytes())
+    Ok(crate::support::hex::encode(bytes)?.into_bytes())
 }
 
 /// A number by its decimal digits.
@@ -127,14 +127,17 @@ fn h264_profile(units: &[&[u8]]) -> Result<Vec<u8>, StreamError> {
     set_bytes(1, 3, first_set(H264_SPS, units))
 }
 
-/// Gives parameters what those three bytes say.
+/// Gives parameters what those three bytes say, and the mode of packets as packetizers send them: they
+/// have fragments and aggregates.
 fn h264_put_profile(it: &mut H264Parameters, profile: &[u8]) -> Result<(), AllocError> {
     it.put(H264Parameter::ProfileLevelId, base16(profile)?);
+    it.put(H264Parameter::PacketizationMode, Vec::try_from_slice(b"1")?);
     Ok(())
 }
 
 /// The parameters of H.264 that a sender says of its stream, out of the units that it begins with:
-/// `profile-level-id` and `sprop-parameter-sets` (RFC 6184, section 8.1).
+/// `profile-level-id`, `sprop-parameter-sets` and `packetization-mode=1`, which packetizers need (RFC
+/// 6184, sections 6.3 and 8.1).
 ///
 /// The sets are those before the first slice, and the first SPS says profile and level: that the
 /// others say the same is for the caller to see. Where no SPS is there or it's too short for its

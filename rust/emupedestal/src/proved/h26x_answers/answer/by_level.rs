@@ -92,7 +92,7 @@ fn lower_highest<'a, P: CodecParameter>(
 }
 
 /// Whether a number is there, and positive.
-fn is_positive(number: Option<u64>) -> bool {
+pub(crate) fn is_positive(number: Option<u64>) -> bool {
     match number {
         Some(number) => 0 < number,
         None => false,

@@ -2,7 +2,10 @@
 
 //! Answers to offers of H.264 (RFC 6184, section 8.2.2).
 
-use crate::proved::h26x_answers::answer::{CodecRules, Role, Terms, copy_of, holds, same_number};
+use crate::proved::h26x_answers::answer::{
+    CodecRules, Role, Terms, copy_of, holds, own_h264, same_number,
+};
+use crate::proved::h26x_answers::fault::FormatFault;
 use crate::proved::h26x_profile::{H264LevelIdc, H264Profile, H264ProfileIdc, H264ProfileLevel};
 use crate::proved::h26x_sdp::{H264Parameter, H264Parameters};
 use crate::support::AllocError;
@@ -90,7 +93,7 @@ impl ProfileLevelId {
     }
 
     /// Twice level_idc, by which levels are ordered; level 1b stands between 1 and 1.1.
-    fn level_rank(self) -> u16 {
+    pub(crate) fn level_rank(self) -> u16 {
         if self.is_1b() {
             21
         } else {
@@ -149,7 +152,7 @@ fn same_sub_profile(a: Option<H264Profile>, b: Option<H264Profile>) -> bool {
 }
 
 /// The level that the two bytes of a `max-recv-level` say, as `level_rank`.
-fn recv_rank(text: &[u8]) -> u16 {
+pub(crate) fn recv_rank(text: &[u8]) -> u16 {
     match <[u8; 2] as FromHex>::from_hex(text) {
         Ok(bytes) => flagged_rank(bytes[0] >> 4 & 1, bytes[1]),
         Err(_) => 0,
@@ -171,7 +174,7 @@ fn is_on(it: &H264Parameters, parameter: H264Parameter) -> bool {
 }
 
 /// The `profile-level-id` of parameters, or its default.
-fn id_of(it: &H264Parameters) -> Option<ProfileLevelId> {
+pub(crate) fn id_of(it: &H264Parameters) -> Option<ProfileLevelId> {
     ProfileLevelId::read(it.value_or_default(H264Parameter::ProfileLevelId)?)
 }
 
@@ -184,7 +187,7 @@ fn highest_rank(it: &H264Parameters, id: ProfileLevelId) -> u16 {
 }
 
 /// Whether units are interleaved.
-fn is_interleaved(it: &H264Parameters) -> bool {
+pub(crate) fn is_interleaved(it: &H264Parameters) -> bool {
     same_number(
         it.number_or_default(H264Parameter::PacketizationMode),
         Some(2),
@@ -298,5 +301,13 @@ impl CodecRules for H264Parameter {
 
     fn terms(offered: &H264Parameters, own: &H264Parameters) -> Result<Option<Terms>, AllocError> {
         terms(offered, own)
+    }
+
+    fn is_known(it: &H264Parameters) -> bool {
+        own_h264::is_known(it)
+    }
+
+    fn fault(own: &H264Parameters) -> Option<FormatFault> {
+        own_h264::fault(own)
     }
 }

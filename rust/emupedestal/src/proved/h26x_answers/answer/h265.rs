@@ -3,7 +3,8 @@
 //! Answers to offers of H.265 (RFC 7798, section 7.2.2).
 
 use crate::proved::h26x_answers::answer::by_level::{LevelParameters, terms_by_level};
-use crate::proved::h26x_answers::answer::{CodecRules, Role, Terms, same_number};
+use crate::proved::h26x_answers::answer::{CodecRules, Role, Terms, own_h265, same_number};
+use crate::proved::h26x_answers::fault::FormatFault;
 use crate::proved::h26x_sdp::{H265Parameter, H265Parameters};
 use crate::support::AllocError;
 use crate::support::hex::FromHex;
@@ -99,5 +100,13 @@ impl CodecRules for H265Parameter {
 
     fn terms(offered: &H265Parameters, own: &H265Parameters) -> Result<Option<Terms>, AllocError> {
         terms(offered, own)
+    }
+
+    fn is_known(it: &H265Parameters) -> bool {
+        own_h265::is_known(it)
+    }
+
+    fn fault(own: &H265Parameters) -> Option<FormatFault> {
+        own_h265::fault(own)
     }
 }

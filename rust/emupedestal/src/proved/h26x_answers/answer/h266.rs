@@ -3,7 +3,10 @@
 //! Answers to offers of H.266 (RFC 9328, section 7.3.2).
 
 use crate::proved::h26x_answers::answer::by_level::{LevelParameters, terms_by_level};
-use crate::proved::h26x_answers::answer::{CodecRules, Role, Terms, same_if_given, same_number};
+use crate::proved::h26x_answers::answer::{
+    CodecRules, Role, Terms, own_h266, same_if_given, same_number,
+};
+use crate::proved::h26x_answers::fault::FormatFault;
 use crate::proved::h26x_fmtp::Kind;
 use crate::proved::h26x_fmtp::unit_types::H266_VPS;
 use crate::proved::h26x_sdp::{H266Parameter, H266Parameters};
@@ -89,5 +92,13 @@ impl CodecRules for H266Parameter {
 
     fn terms(offered: &H266Parameters, own: &H266Parameters) -> Result<Option<Terms>, AllocError> {
         terms(offered, own)
+    }
+
+    fn is_known(it: &H266Parameters) -> bool {
+        own_h266::is_known(it)
+    }
+
+    fn fault(own: &H266Parameters) -> Option<FormatFault> {
+        own_h266::fault(own)
     }
 }

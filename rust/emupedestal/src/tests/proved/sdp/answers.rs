@@ -250,7 +250,7 @@ const H265: [Exchange; 10] = [
     },
     Exchange {
         offer: &[(49, "profile-id=1")],
-        ours: &["level-id=94;sprop-vps=QAEMAf//"],
+        ours: &["level-id=120;sprop-vps=QAEMAf//"],
         answer: Some((49, "profile-id=1")),
     },
     // another tier, profile or mode

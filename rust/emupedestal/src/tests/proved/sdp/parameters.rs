@@ -64,7 +64,7 @@ const LINES: [(&str, &str); 13] = [
 ];
 
 /// What is wrong with values of each kind.
-const VALUES: [(Kind, &str, Option<Fault>); 20] = [
+const VALUES: [(Kind, &str, Option<Fault>); 21] = [
     (MODE, "0", None),
     (MODE, "2", None),
     (MODE, "02", None),
@@ -82,7 +82,8 @@ const VALUES: [(Kind, &str, Option<Fault>); 20] = [
     (SEGMENTATION, "+f", Some(Fault::NotHexadecimal)),
     (Kind::TxMode, "SRST", None),
     (Kind::TxMode, "MRMT", None),
-    (Kind::TxMode, "srst", Some(Fault::NotTxMode)),
+    (Kind::TxMode, "srst", None),
+    (Kind::TxMode, "srmt", Some(Fault::NotTxMode)),
     (Kind::TxMode, "", Some(Fault::NotTxMode)),
     (Kind::Text, "", None),
 ];

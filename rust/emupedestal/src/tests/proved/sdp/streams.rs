@@ -34,8 +34,7 @@ const H266_SPS: &[u8] = b"\x00\x79\x00\x0d\x02\x33\x80";
 const H264_LINE: &str = "packetization-mode=1; sprop-parameter-sets=Z0LACtkJbARAAAADAEAAAAyDxImS,aMuBEsg=; \
       profile-level-id=42C00A";
 
-const H264_WRITTEN: &str =
-    "profile-level-id=42C00A;sprop-parameter-sets=Z0LACtkJbARAAAADAEAAAAyDxImS,aMuBEsg=";
+const H264_WRITTEN: &str = "profile-level-id=42c00a;sprop-parameter-sets=Z0LACtkJbARAAAADAEAAAAyDxImS,aMuBEsg=;packetization-mode=1";
 
 const H265_LINE: &str = "sprop-vps=QAEMAf//AiAAAAMAkAAAAwAAAwA8lZQJ; \
       sprop-sps=QgEBAiAAAAMAkAAAAwAAAwA8oBYgJE2WVlkkyvAWgIAAAAMAgAAADIQ=; \
@@ -134,7 +133,7 @@ fn stream_of_h264() {
     let text = h264_of_payload(bytes).unwrap().write().unwrap();
     assert_eq!(
         text.as_slice(),
-        "profile-level-id=000001;sprop-parameter-sets=ZwAAAwE=".as_bytes()
+        "profile-level-id=000001;sprop-parameter-sets=ZwAAAwE=;packetization-mode=1".as_bytes()
     );
     let none = Some(StreamError::NoParameterSet);
     assert_eq!(h264_of_units(&[H264_PPS, slice, H264_SPS]).err(), none);

@@ -1,0 +1,45 @@
+package h26x_test
+
+import (
+	"errors"
+	"os"
+	"strings"
+	"testing"
+
+	"emupedestal/h26x"
+)
+
+// The offers and answers of ../streams/answers.txt, which says how it is written.
+func TestAnswerRows(t *testing.T) {
+	text, err := os.ReadFile("../streams/answers.txt")
+	done(t, err)
+	codecs := map[string]h26x.Codec{"h264": h26x.H264, "h265": h26x.H265, "h266": h26x.H266}
+	rows := 0
+	for _, row := range strings.Split(strings.TrimSuffix(string(text), "\n"), "\n") {
+		if row[0] == '#' {
+			continue
+		}
+		columns := strings.Split(row, "|")
+		if len(columns) != 4 {
+			t.Fatal(row)
+		}
+		for i := range columns {
+			columns[i] = strings.TrimSpace(columns[i])
+		}
+		codec, wanted := codecs[columns[0]], columns[3]
+		got := "-"
+		answer, err := formatOf(t, codec, columns[1]).Answer(formatOf(t, codec, columns[2]))
+		if !errors.Is(err, h26x.ErrSDPNoAnswer) {
+			done(t, err)
+			got = answer.String()
+			done(t, answer.Close())
+		}
+		if got != wanted {
+			t.Errorf("%s: got %s", row, got)
+		}
+		rows++
+	}
+	if rows <= 40 {
+		t.Errorf("%d rows", rows)
+	}
+}
