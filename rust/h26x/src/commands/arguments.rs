@@ -50,6 +50,8 @@ pub struct Send {
     pub has_lengths: bool,
     pub mtu: u16,
     pub has_donl: bool,
+    /// Whether packets are those of str0m, which sends no delimiters, and of sets the last ones.
+    pub is_as_str0m: bool,
     pub payload_type: u8,
     pub port: u16,
     pub ssrc: u32,
@@ -182,6 +184,7 @@ impl Words {
         Ok(Send {
             codec,
             has_donl,
+            is_as_str0m: self.flag("--as-str0m"),
             mtu: self
                 .number("--mtu", least, LONGEST_PAYLOAD as u64)?
                 .unwrap_or(1200) as u16,

@@ -148,6 +148,12 @@ pub static GROUPS: [Group; 5] = [
                 "IN has its units behind lengths of four bytes, as in MP4 files (ISO/IEC \
                  14496-15; what receive --lengths writes), and not behind start codes",
             ),
+            flag(
+                "--as-str0m",
+                "packets as str0m's packetize makes them (every unit is sent, those that fit one \
+                 packet together): delimiters are left out, and of each kind of parameter sets the \
+                 last is sent, before the next picture, where there are an SPS and a PPS",
+            ),
         ],
     },
     Group {

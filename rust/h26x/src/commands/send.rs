@@ -12,8 +12,8 @@ use crate::streams::access_units::AccessUnits;
 use crate::streams::chooser::counted;
 use crate::streams::codecs::{Likeness, name, word};
 use crate::streams::description::Description;
-use emupedestal::access_units::{is_parameter_set_type, unit_type};
-use emupedestal::{Codec, CodecPacketizer, PacketError, Packets, units};
+use emupedestal::access_units::unit_type;
+use emupedestal::{Codec, CodecPacketizer, Packets, Packing, units};
 
 const TICKS_A_SECOND: u128 = 90_000;
 const MICROS_A_SECOND: u128 = 1_000_000;
@@ -33,7 +33,7 @@ struct Sender<'a> {
     /// Where the last packet of this access unit stands in what is gathered.
     last: Option<usize>,
     sent: u64,
-    /// Units that are never sent: delimiters, of H.266 types 28 and 29, and such without a header.
+    /// Units that are not sent.
     left_out: u64,
 }
 
@@ -102,23 +102,25 @@ impl<'a> Sender<'a> {
     }
 
     fn send(&mut self, access_unit: &[u8]) -> Result<(), Failure> {
-        if self.look(access_unit) {
-            let made = self.packetizer.packetize_into(
-                self.asked.mtu.into(),
-                access_unit,
-                &mut self.packets,
-            );
-            self.write(made)?;
-        } else {
-            for unit in units(self.asked.codec, access_unit).filter(|it| self.asked.sends(it)) {
-                let made = self.packetizer.packetize_unit_into(
-                    self.asked.mtu.into(),
-                    unit,
-                    &mut self.packets,
-                );
-                self.write(made)?;
+        let sendable = self.look(access_unit);
+        let mtu = self.asked.mtu.into();
+        match self.asked.is_as_str0m {
+            true => {
+                let made = self
+                    .packetizer
+                    .packetize_into(mtu, access_unit, &mut self.packets);
+                made.map_err(|error| Failure::of(&self.asked.input, error))?;
+            }
+            false => {
+                let together = Packing::Together;
+                let to = &mut self.packets;
+                let made = self
+                    .packetizer
+                    .packetize_units_into(together, mtu, &sendable, to);
+                made.map_err(|error| Failure::of(&self.asked.input, error))?;
             }
         }
+        self.write();
         if let Some(last) = self.last.take() {
             self.sink.gathered()[last + MARKER] |= 0x80;
         }
@@ -126,41 +128,24 @@ impl<'a> Sender<'a> {
         self.sink.pass_on()
     }
 
-    /// Looks at the units of an access unit. Whether all its parameter sets are sent where it is sent
-    /// at once: one of each kind, short enough, and before another unit.
-    fn look(&mut self, access_unit: &[u8]) -> bool {
-        let codec = self.asked.codec;
-        let longest = usize::from(self.asked.mtu) - if self.asked.has_donl { 2 } else { 0 };
-        let mut sets = Vec::new();
-        let (mut is_short, mut is_before) = (true, true);
-        for unit in units(codec, access_unit) {
+    /// Looks at the units of an access unit; answers those that are sent.
+    fn look<'b>(&mut self, access_unit: &'b [u8]) -> Vec<&'b [u8]> {
+        let mut sendable = Vec::new();
+        for unit in units(self.asked.codec, access_unit) {
             self.likeness.add(unit);
             if let Some((description, _)) = &mut self.description {
                 description.look(unit);
             }
-            let set = unit_type(codec, unit).filter(|it| is_parameter_set_type(codec, *it));
-            if let Some(set) = set {
-                sets.push(set);
-                is_short &= unit.len() <= longest;
-                is_before = false;
-            } else if self.asked.sends(unit) {
-                is_before = true;
-            } else {
-                self.left_out += 1;
+            match self.asked.sends(unit) {
+                true => sendable.push(unit),
+                false => self.left_out += 1,
             }
         }
-        sets.sort_unstable();
-        let is_one_of_each = match codec {
-            Codec::H264 => matches!(sets[..], [] | [7, 8]),
-            Codec::H265 => matches!(sets[..], [] | [33, 34] | [32, 33, 34]),
-            Codec::H266 => matches!(sets[..], [] | [15, 16] | [14, 15, 16]),
-        };
-        is_one_of_each && is_short && is_before
+        sendable
     }
 
     /// Writes the packets of a call.
-    fn write(&mut self, made: Result<(), PacketError>) -> Result<(), Failure> {
-        made.map_err(|error| Failure::of(&self.asked.input, error))?;
+    fn write(&mut self) {
         let picture = u128::from(self.access_units) * u128::from(self.asked.frames.1);
         let at = |a_second: u128| picture * a_second / u128::from(self.asked.frames.0);
         for i in 0..self.packets.len() {
@@ -184,15 +169,10 @@ impl<'a> Sender<'a> {
         }
         self.sent += self.packets.len() as u64;
         self.sink.gathered().extend_from_slice(self.packets.bytes());
-        Ok(())
     }
 
     fn finish(self) -> Result<u8, Failure> {
         let Send { codec, input, .. } = self.asked;
-        if self.sent == 0 {
-            let what = "there is no unit in it to be sent; it is empty, or holds delimiters alone";
-            return Err(Failure::of(input, what));
-        }
         if let Some(other) = self.likeness.other_than(*codec) {
             let what = format!(
                 "this stream is no {}: its units look as those of {} do; say --codec {}",
@@ -200,6 +180,10 @@ impl<'a> Sender<'a> {
                 name(other),
                 word(other)
             );
+            return Err(Failure::of(input, what));
+        }
+        if self.sent == 0 {
+            let what = "there is no unit in it that can be sent";
             return Err(Failure::of(input, what));
         }
         let mut description = self.description;
@@ -222,13 +206,20 @@ impl<'a> Sender<'a> {
 }
 
 impl Send {
-    /// Whether a unit is sent: delimiters and units of H.266 whose types packets have are not.
+    /// Whether a unit is sent: not one without a whole header, nor with its forbidden bit set, nor of a
+    /// type that packets have; nor, as str0m has it, a delimiter.
     fn sends(&self, unit: &[u8]) -> bool {
-        match (self.codec, unit_type(self.codec, unit)) {
-            (_, None) => false,
-            (Codec::H264, Some(it)) => it != 9,
-            (Codec::H265, Some(it)) => it != 35,
-            (Codec::H266, Some(it)) => !matches!(it, 20 | 28 | 29),
+        let is_forbidden = unit.first().is_some_and(|first| first & 0x80 != 0);
+        let Some(it) = unit_type(self.codec, unit) else {
+            return false;
+        };
+        match (self.codec, self.is_as_str0m) {
+            (Codec::H264, true) => it != 9,
+            (Codec::H265, true) => it != 35,
+            (Codec::H266, true) => !matches!(it, 20 | 28 | 29),
+            (Codec::H264, false) => !is_forbidden && matches!(it, 1..=23),
+            (Codec::H265, false) => !is_forbidden && !matches!(it, 48..=50),
+            (Codec::H266, false) => !is_forbidden && !matches!(it, 28 | 29),
         }
     }
 }
