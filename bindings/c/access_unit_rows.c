@@ -6,6 +6,9 @@
 
 enum { LONGEST = 2000 };
 
+/* The letters of what becomes of a packet, at the numbers of h26x_pushed; one that is held has none. */
+static const char ANSWERS[] = " ltfsaj";
+
 /* A row that is walked: what is left of what is given out. */
 struct walk {
     struct tally *tally;
@@ -64,12 +67,14 @@ static void give(struct walk *w, const char *word)
         uint32_t pushed = 99;
         holds(w, sscanf(word, "%u:%u", &number, &timestamp) == 2);
         const char *payload = strrchr(word, ':');
+        const char *marker = strchr(word, 'm');
+        const char *answer = strchr(ANSWERS, payload[-1]);
         const struct bytes in = bytes_of(payload + 1);
-        holds(w,
-              h26x_access_units_push(&w->u, 0, (uint16_t)number, timestamp, payload[-1] == 'm', in.at, in.len, &pushed,
-                                     NULL)
-                  == H26X_OK);
-        holds(w, pushed == H26X_HELD);
+        holds(
+            w,
+            h26x_access_units_push(&w->u, 0, (uint16_t)number, timestamp, marker != NULL, in.at, in.len, &pushed, NULL)
+                == H26X_OK);
+        holds(w, pushed == (answer == NULL ? H26X_HELD : (uint32_t)(answer - ANSWERS)));
     }
     while (h26x_access_units_next(&w->u, 0, to, sizeof to, &unit) == H26X_OK)
         compare(w, &unit, to);
@@ -85,20 +90,19 @@ static void compare_counts(struct walk *w)
     const struct {
         const char *name;
         uint64_t *count;
-    } all[] = {{"no_unit", &counts.no_unit},
-               {"still", &counts.still},
-               {"unbelieved", &counts.unbelieved},
-               {"refused", &counts.refused},
-               {"lost", &counts.lost}};
+    } all[] = {{"no_unit", &counts.no_unit}, {"still", &counts.still}, {"unbelieved", &counts.unbelieved},
+               {"refused", &counts.refused}, {"lost", &counts.lost},   {"late", &counts.late},
+               {"twice", &counts.twice},     {"stray", &counts.stray}, {"anew", &counts.anew}};
+    const size_t last = sizeof all / sizeof *all - 1;
     holds(w, !next_word(&w->wanted, word) || strcmp(word, "|") == 0);
     while (next_word(&w->wanted, word)) {
         size_t i = 0;
-        while (i < 4 && strcmp(word, all[i].name) != 0)
+        while (i < last && strcmp(word, all[i].name) != 0)
             i++;
         holds(w, next_word(&w->wanted, word) && sscanf(word, "%llu", &count) == 1 && *all[i].count == count);
         *all[i].count = 0;
     }
-    for (size_t i = 0; i < 5; i++)
+    for (size_t i = 0; i <= last; i++)
         holds(w, *all[i].count == 0);
 }
 
@@ -107,8 +111,13 @@ static void walk(struct tally *t, const char *row)
     struct walk w = {t, row, strstr(row, " = "), {NULL}};
     char word[LONGEST];
     const char *at = row;
-    h26x_access_units_config config = {
-        .max_wait = UINT32_MAX, .window = 1, .held_limit = SIZE_MAX, .run_limit = SIZE_MAX, .unit_limit = SIZE_MAX};
+    h26x_access_units_config config = {.max_wait = UINT32_MAX,
+                                       .window = 1,
+                                       .far_away = 3000,
+                                       .far_behind = 100,
+                                       .held_limit = SIZE_MAX,
+                                       .run_limit = SIZE_MAX,
+                                       .unit_limit = SIZE_MAX};
     holds(&w, w.wanted != NULL && next_word(&at, word));
     w.wanted += 3;
     config.codec = strcmp(word, "h264") == 0 ? H26X_H264 : strcmp(word, "h265") == 0 ? H26X_H265 : H26X_H266;

@@ -193,7 +193,7 @@ static void check_losses(struct tally *t, const struct packets *p)
     gives_none(&it, 100);
     holds(&it, 101, 13, 3000, true, p->end);
     pushes(&it, 101, 13, 3000, true, p->end, H26X_TWICE, 0);
-    pushes(&it, 101, 11, 3000, false, p->start, H26X_PUSHED_LATE, 1);
+    pushes(&it, 101, 11, 3000, false, p->start, H26X_TWICE, 0);
     gives_none(&it, 101);
     misses(&it, 1, 12);
     holds(&it, 102, 12, 3000, false, p->middle);
@@ -217,7 +217,7 @@ static void check_losses(struct tally *t, const struct packets *p)
           .is_whole = true);
     gives_none(&it, 204);
     pushes(&it, 205, 16, 9000, true, p->slice, H26X_PUSHED_LATE, 3);
-    counts(&it, .taken = 7, .lost = 2, .late = 2, .twice = 1, .units = 5, .whole = 2);
+    counts(&it, .taken = 7, .lost = 2, .late = 1, .twice = 2, .units = 5, .whole = 2);
     /* A middle fragment is missing: nothing of that unit is written, so its access unit isn't given out, and what is
      * missing of it is told with the next one. */
     holds(&it, 300, 19, 15000, false, p->start);
@@ -227,7 +227,7 @@ static void check_losses(struct tally *t, const struct packets *p)
     holds(&it, 400, 22, 18000, true, p->slice);
     gives(&it, 400, p->slice_unit, .timestamp = 18000, .missing = 1, .first = 22, .last = 22, .extra = SLICE,
           .is_whole = true);
-    counts(&it, .taken = 10, .lost = 3, .late = 2, .twice = 1, .units = 6, .whole = 3);
+    counts(&it, .taken = 10, .lost = 3, .late = 1, .twice = 2, .units = 6, .whole = 3);
     h26x_access_units_free(it.u);
 }
 
@@ -249,8 +249,8 @@ static void check_markers(struct tally *t, const struct packets *p)
           .is_clean = true, .continues = true);
     holds(&it, 100, 14, 6000, true, "");
     skips(&it, 100, 15, H26X_HELD, 0);
-    skips(&it, 100, 15, H26X_PUSHED_LATE, 1);
-    skips(&it, 100, 12, H26X_PUSHED_LATE, 4);
+    skips(&it, 100, 15, H26X_TWICE, 0);
+    skips(&it, 100, 12, H26X_TWICE, 0);
     expect(t, h26x_access_units_push(&it.u, 100, 16, 6000, true, NULL, 9, &pushed, NULL) == H26X_OK);
     expect(t, pushed == H26X_HELD);
     holds(&it, 100, 17, 6000, false, p->middle);
@@ -263,7 +263,7 @@ static void check_markers(struct tally *t, const struct packets *p)
     gives(&it, 100, p->slice_unit, .timestamp = 9000, .first = 19, .last = 19, .extra = SLICE,
           .is_whole = true, .is_clean = true);
     gives_none(&it, 100);
-    counts(&it, .taken = 8, .late = 2, .skipped = 3, .units = 5, .whole = 3, .unbelieved = 3);
+    counts(&it, .taken = 8, .twice = 2, .skipped = 3, .units = 5, .whole = 3, .unbelieved = 3);
     h26x_access_units_free(it.u);
 }
 
@@ -291,6 +291,26 @@ static void check_strays(struct tally *t, const struct packets *p)
           .is_whole = true, .is_clean = true);
     gives_none(&it, 100);
     counts(&it, .taken = 4, .lost = 1, .stray = 4, .anew = 1, .units = 4, .whole = 1);
+    h26x_access_units_free(it.u);
+}
+
+/* Settings that change while it runs: with a window of 1 what waits is due. */
+static void check_other_settings(struct tally *t, const struct packets *p)
+{
+    h26x_access_units_config config = settings(p->codec);
+    struct receiving it = receiver_of(t, config);
+    h26x_access_units none = {NULL};
+    holds(&it, 0, 10, 0, true, p->key);
+    gives(&it, 100, p->key_unit, .first = 10, .last = 10, .extra = KEY, .is_clean = true);
+    holds(&it, 100, 12, 3000, true, p->slice);
+    gives_none(&it, 100);
+    config.window = 0;
+    expect(t, h26x_access_units_set_config(&it.u, &config) == H26X_OUT_OF_RANGE);
+    gives_none(&it, 100);
+    config.window = 1;
+    expect(t, h26x_access_units_set_config(&it.u, &config) == H26X_OK);
+    gives(&it, 100, p->slice_unit, .timestamp = 3000, .missing = 1, .first = 12, .last = 12, .extra = SLICE);
+    expect(t, h26x_access_units_set_config(&none, &config) == H26X_WRONG_END);
     h26x_access_units_free(it.u);
 }
 
@@ -1015,6 +1035,7 @@ void check_access_units(struct tally *t)
         check_losses(t, &all_packets[i]);
         check_markers(t, &all_packets[i]);
         check_strays(t, &all_packets[i]);
+        check_other_settings(t, &all_packets[i]);
         check_limits(t, &all_packets[i]);
         check_ends_of_streams(t, &all_packets[i]);
         check_long_refusals(t, &all_packets[i]);

@@ -148,6 +148,7 @@ static void *run(void *at)
         check_looking(&work->tally);
         check_profiles(&work->tally);
         check_sdp(&work->tally);
+        check_answer_rows(&work->tally);
         check_optional(&work->tally);
     }
     work->pass(&work->tally);

@@ -40,6 +40,7 @@
     X(receiver_skip) X(receiver_run_len) X(h265_shown) X(h265_part_copy) X(access_units_push)      \
     X(access_units_skip) X(access_units_next) X(access_units_deadline) X(access_units_missing)     \
     X(access_units_begin_at) X(access_units_finish) X(access_units_restart) X(access_units_count)  \
+    X(access_units_set_config)                                                                     \
     X(sdp_answer) X(sdp_codec) X(sdp_write) X(sdp_value) X(sdp_number) X(sdp_units) X(sdp_unit) X(sdp_other)     \
     X(sdp_max_don_diff) X(sdp_constraints) X(sdp_capability_points)
 
@@ -282,6 +283,25 @@ struct outputs {
 
 #define WANTED(bit, output) ((d->wants >> (bit) & 1) != 0 ? (output) : NULL)
 
+/* Settings, of which most are those of a receiver. */
+static h26x_access_units_config config_of(const struct drawn *d)
+{
+    return (h26x_access_units_config){
+        .codec = d->codec,
+        .max_wait = d->x % 4 == 0 ? UINT32_MAX : d->y % 200,
+        .begin_wait = d->z % 3 == 0 ? 0 : d->z % 7 == 0 ? UINT32_MAX : d->x % 200,
+        .window = d->x % 7 == 0 ? d->y & 0xffff : 1 + d->y % 8,
+        .far_away = d->z % 2 ? 0 : 1 + d->z % 300,
+        .far_behind = d->y % 2 ? 0 : 1 + d->y % 200,
+        .numbers = d->numbers,
+        .avc = d->avc,
+        .has_sets = d->y % 3 == 0,
+        .held_limit = d->z % 5 ? SIZE_MAX : d->x % 3000,
+        .run_limit = d->y % 5 ? SIZE_MAX : d->z % 2000,
+        .unit_limit = d->x % 5 ? SIZE_MAX : d->z % 4000,
+    };
+}
+
 /* `at` are handles of each kind by one pointer, as another one is. */
 #define P &(h26x_packetizer){d->h->at[s]}
 #define D &(h26x_depacketizer){d->h->at[s]}
@@ -387,27 +407,13 @@ static uint64_t receives_units(int s, const struct drawn *d, struct answer *a, s
         return l->access_units_finish(U);
     case CALL_access_units_restart:
         return l->access_units_restart(U);
+    case CALL_access_units_set_config: {
+        const h26x_access_units_config config = config_of(d);
+        return l->access_units_set_config(U, &config);
+    }
     default:
         return l->access_units_count(U, WANTED(7, &o->counts));
     }
-}
-
-/* Settings, of which most are those of a receiver. */
-static h26x_access_units_config config_of(const struct drawn *d)
-{
-    return (h26x_access_units_config){
-        .codec = d->codec,
-        .max_wait = d->x % 4 == 0 ? UINT32_MAX : d->y % 200,
-        .begin_wait = d->z % 3 == 0 ? 0 : d->z % 7 == 0 ? UINT32_MAX : d->x % 200,
-        .window = d->x % 7 == 0 ? d->y & 0xffff : 1 + d->y % 8,
-        .far_away = d->z % 2 ? 0 : 1 + d->z % 300,
-        .numbers = d->numbers,
-        .avc = d->avc,
-        .has_sets = d->y % 3 == 0,
-        .held_limit = d->z % 5 ? SIZE_MAX : d->x % 3000,
-        .run_limit = d->y % 5 ? SIZE_MAX : d->z % 2000,
-        .unit_limit = d->x % 5 ? SIZE_MAX : d->z % 4000,
-    };
 }
 
 static uint64_t describes(int s, const struct drawn *d, struct answer *a, struct outputs *o)

@@ -398,6 +398,7 @@ static bool make_recorder(uint32_t codec, int *sends, struct recorder *r)
                                              .begin_wait = BEGIN_WAIT,
                                              .window = 512,
                                              .far_away = 3000,
+                                             .far_behind = 100,
                                              .held_limit = 8000000,
                                              .run_limit = 4000000,
                                              .unit_limit = 8000000};

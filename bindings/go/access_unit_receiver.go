@@ -29,15 +29,18 @@ const (
 	Held Pushed = C.H26X_HELD
 	// PushedLate: dropped: it came after its place was passed.
 	PushedLate Pushed = C.H26X_PUSHED_LATE
-	// Twice: dropped: a packet with its number waits.
+	// Twice: dropped: a packet with its number waits, or was taken and is among the last 1024.
 	Twice Pushed = C.H26X_TWICE
 	// Full: dropped: more bytes wait than the limit. Take access units, and give it again.
 	Full Pushed = C.H26X_FULL
-	// Stray: its number is too far from the one that is due: it waits alone, in the place of another such packet.
+	// Stray: its number is too far from the one that is due, or more than a window, and than 100, ahead of those
+	// that wait: it waits alone, in the place of another such packet.
 	Stray Pushed = C.H26X_STRAY
 	// Anew: it follows the one that waited alone: the stream begins anew, and what waited of the old numbers is
 	// dropped.
 	Anew Pushed = C.H26X_ANEW
+	// Jumped: it is so far ahead, and no more than a window, or 100, from the one that waited alone: both wait.
+	Jumped Pushed = C.H26X_JUMPED
 )
 
 // String is its name.
@@ -55,6 +58,8 @@ func (p Pushed) String() string {
 		return "Stray"
 	case Anew:
 		return "Anew"
+	case Jumped:
+		return "Jumped"
 	default:
 		return "Pushed(" + strconv.FormatUint(uint64(p), 10) + ")"
 	}
@@ -66,10 +71,13 @@ type AccessUnitConfig struct {
 	// Window: a missing packet is waited for until one came so many places, less one, ahead of it, up to 16384.
 	// 0: 512.
 	Window int
-	// Far: a number so far or farther ahead of the newest that waits (where none waits, of the one that is due), and so
-	// far behind the one that is due, waits alone until the next such number follows it, and then the stream begins anew
-	// with both, whatever HeldLimit is (RFC 3550, A.1). 0: 3000; negative: none is too far, and one behind is late.
+	// Far: a number so far or farther ahead of the newest that waits (where none waits, of the one that is due), and
+	// FarBehind behind the one that is due, waits alone until the next such number follows it, and then the stream begins
+	// anew with both, whatever HeldLimit is (RFC 3550, A.1). 0: 3000; negative: none is too far, and one behind is late.
 	Far int
+	// FarBehind: how far behind the one that is due such a number is at least, but for the last 1024 that the stream
+	// passed, which are late or twice. 0: 100; negative: as Far.
+	FarBehind int
 	// MaxWait: a missing packet is waited for so many ticks at most after one behind it came. 0, or 2^32 - 1 and more:
 	// by the window alone; negative: not at all.
 	MaxWait int
@@ -103,8 +111,8 @@ type AccessUnit struct {
 	// delimiter, or is the first one and begins with its parameter sets.
 	IsWhole bool
 	// IsClean: a decoder can show it. Nothing of it is missing, nor was since a keyframe that came from its first slice on
-	// with its parameter sets, in it or before it in order, or it is one. Disposable pictures may be missing in part. Where
-	// it is false ask the sender for a keyframe.
+	// with its parameter sets, in it or before it in order, or it is one. Disposable pictures may be missing in part, and
+	// packets that by frame numbers of H.264 bore no reference picture. Where it is false ask the sender for a keyframe.
 	IsClean bool
 	// IsDisposable: no other picture refers to its own: those after it can be clean where it is damaged.
 	IsDisposable bool
@@ -125,9 +133,9 @@ type Counts struct {
 	Lost uint64
 	// Late: packets that came after their place was passed.
 	Late uint64
-	// Twice: packets that came while one with their number waited.
+	// Twice: packets that came while one with their number waited, or after it was taken.
 	Twice uint64
-	// Stray: packets whose number was too far from the one that was due.
+	// Stray: packets that waited alone, those with which the stream began anew or jumped too.
 	Stray uint64
 	// Refused: packets that were refused for what they are, but for those of NoUnit.
 	Refused uint64
@@ -191,6 +199,7 @@ func (c AccessUnitConfig) settings(codec Codec) C.h26x_access_units_config {
 		begin_wait: C.uint32_t(setting(c.BeginWait, 0, math.MaxUint32)),
 		window:     C.uint16_t(setting(c.Window, 512, math.MaxUint16)),
 		far_away:   C.uint16_t(setting(c.Far, 3000, math.MaxUint16)),
+		far_behind: C.uint16_t(setting(c.FarBehind, 100, math.MaxUint16)),
 		numbers:    C.bool(c.DONL),
 		avc:        C.bool(c.AVC),
 		has_sets:   C.bool(c.HasSets),
@@ -228,6 +237,18 @@ func (r *AccessUnitReceiver) Close() error {
 
 // Codec is its codec.
 func (r *AccessUnitReceiver) Codec() Codec { return r.codec }
+
+// SetConfig gives it other settings from now on, for what waits and is open too, but for DONL and AVC, which stay. Its
+// errors are ErrOutOfRange where the window is negative or over 16384, and ErrClosed; both change nothing.
+func (r *AccessUnitReceiver) SetConfig(config AccessUnitConfig) error {
+	r.mu.Lock()
+	defer r.mu.Unlock()
+	if r.call == nil {
+		return ErrClosed
+	}
+	settings := config.settings(r.codec)
+	return refusedBy(C.h26x_access_units_set_config(&r.call.handle, &settings))
+}
 
 // Push takes a packet that came at this tick, and copies it where it waits. It answers what became of it, and where it
 // is late how far it is behind the one that is due. One without a payload came and bears nothing, as Skip has it. Then

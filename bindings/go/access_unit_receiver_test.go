@@ -2,6 +2,7 @@ package h26x_test
 
 import (
 	"bytes"
+	"errors"
 	"fmt"
 	"testing"
 
@@ -150,7 +151,7 @@ func TestPacketsMissingLateAndTwice(t *testing.T) {
 		gives(t, r, 100)
 		pushes(t, r, 101, 1, 3000, true, f.end, h26x.Held)
 		pushes(t, r, 101, 1, 3000, true, f.end, h26x.Twice)
-		pushes(t, r, 101, 65535, 3000, false, f.start, h26x.PushedLate, 1)
+		pushes(t, r, 101, 65535, 3000, false, f.start, h26x.Twice)
 		gives(t, r, 101)
 		lacks(t, r, 0)
 		pushes(t, r, 102, 0, 3000, false, f.middle, h26x.Held)
@@ -169,7 +170,32 @@ func TestPacketsMissingLateAndTwice(t *testing.T) {
 		gives(t, r, 203)
 		gives(t, r, 204, missing(one(codec, 9000, 5, slice), 1), whole(one(codec, 12000, 6, slice)))
 		pushes(t, r, 205, 4, 9000, true, slice, h26x.PushedLate, 3)
-		counts(t, r, h26x.Counts{Taken: 7, Lost: 2, Late: 2, Twice: 1, Units: 5, Whole: 2})
+		counts(t, r, h26x.Counts{Taken: 7, Lost: 2, Late: 1, Twice: 2, Units: 5, Whole: 2})
+	}
+}
+
+// Settings that change while a packet waits: with a window of 1 it is due.
+func TestSettingsThatChange(t *testing.T) {
+	for _, codec := range codecs {
+		config := small()
+		r := newAccessUnitReceiver(t, codec, config)
+		key, slice := pictures(codec)
+		pushes(t, r, 0, 10, 0, true, key, h26x.Held)
+		gives(t, r, 100, start(one(codec, 0, 10, key)))
+		pushes(t, r, 100, 12, 3000, true, slice, h26x.Held)
+		for _, window := range []int{-1, 1<<14 + 1} {
+			config.Window = window
+			refuses(t, r.SetConfig(config), h26x.ErrOutOfRange)
+			gives(t, r, 100)
+			waits(t, r, 200)
+		}
+		config.Window = 1
+		done(t, r.SetConfig(config))
+		gives(t, r, 100, missing(one(codec, 3000, 12, slice), 1))
+		done(t, r.Close())
+		if err := r.SetConfig(config); !errors.Is(err, h26x.ErrClosed) {
+			t.Fatalf("got %v of one that is closed", err)
+		}
 	}
 }
 
@@ -236,10 +262,10 @@ func TestNumbersThatBearNothingInAUnit(t *testing.T) {
 		}
 		pushes(t, r, 0, 5, 6000, true, slice, h26x.Held)
 		gives(t, r, 0, missing(one(codec, 6000, 5, slice), 1))
-		if pushed, behind, err := r.Skip(0, 4); pushed != h26x.PushedLate || behind != 2 || err != nil {
+		if pushed, behind, err := r.Skip(0, 4); pushed != h26x.Twice || behind != 0 || err != nil {
 			t.Fatalf("got %v of %d, %v", pushed, behind, err)
 		}
-		counts(t, r, h26x.Counts{Taken: 5, Lost: 1, Late: 1, Skipped: 3, Units: 3, Whole: 1})
+		counts(t, r, h26x.Counts{Taken: 5, Lost: 1, Twice: 1, Skipped: 3, Units: 3, Whole: 1})
 	}
 }
 
@@ -388,13 +414,13 @@ func TestDefaultsOfSettings(t *testing.T) {
 	gives(t, r, 0xffff_ffff, missing(one(h26x.H264, 3000, 1002, slice), 1))
 	// The newest that waits is 1513: 4512 is 2999 ahead.
 	pushes(t, r, 0, 4513, 12000, true, slice, h26x.Stray)
-	pushes(t, r, 0, 4512, 12000, true, slice, h26x.Held)
+	pushes(t, r, 0, 4512, 12000, true, slice, h26x.Jumped)
 
 	r = newAccessUnitReceiver(t, h26x.H264, h26x.AccessUnitConfig{MaxWait: -1, Far: -1})
 	pushes(t, r, 5, 1000, 0, true, key, h26x.Held)
 	waits(t, r, 5)
 	gives(t, r, 5, first)
-	pushes(t, r, 5, 33768, 3000, true, key, h26x.Held)
+	pushes(t, r, 5, 33768, 3000, true, key, h26x.Stray)
 	pushes(t, r, 5, 33769, 3000, true, key, h26x.PushedLate, 32768)
 
 	// A limit of 0 bytes: what waits is due, and what is open between packets is given up.
@@ -535,8 +561,8 @@ func TestMemoryOfAccessUnits(t *testing.T) {
 }
 
 func TestNamesOfWhatBecomesOfPackets(t *testing.T) {
-	names := fmt.Sprint(h26x.Held, h26x.PushedLate, h26x.Twice, h26x.Full, h26x.Stray, h26x.Anew, h26x.Pushed(9))
-	if names != "Held PushedLate Twice Full Stray Anew Pushed(9)" {
+	names := fmt.Sprint(h26x.Held, h26x.PushedLate, h26x.Twice, h26x.Full, h26x.Stray, h26x.Anew, h26x.Jumped, h26x.Pushed(9))
+	if names != "Held PushedLate Twice Full Stray Anew Jumped Pushed(9)" {
 		t.Error(names)
 	}
 }

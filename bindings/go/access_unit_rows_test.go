@@ -61,6 +61,11 @@ func walk(t *testing.T, row string) {
 	comparesCounts(t, r, strings.Fields(counts), row)
 }
 
+// answers are what becomes of a packet, by the letter of it; one that is held has none.
+var answers = map[byte]h26x.Pushed{
+	'l': h26x.PushedLate, 't': h26x.Twice, 's': h26x.Stray, 'a': h26x.Anew, 'j': h26x.Jumped,
+}
+
 // pushRow gives a packet, and takes what has ended.
 func pushRow(t *testing.T, r *h26x.AccessUnitReceiver, packet string) (got []h26x.AccessUnit) {
 	t.Helper()
@@ -70,9 +75,14 @@ func pushRow(t *testing.T, r *h26x.AccessUnitReceiver, packet string) (got []h26
 		parts := strings.Split(packet, ":")
 		number, err := strconv.Atoi(parts[0])
 		done(t, err)
-		timestamp, err := strconv.Atoi(strings.TrimSuffix(parts[1], "m"))
+		timestamp, err := strconv.Atoi(strings.TrimRight(parts[1], "mltsaj"))
 		done(t, err)
-		pushes(t, r, 0, uint16(number), uint32(timestamp), strings.HasSuffix(parts[1], "m"), some(parts[2]), h26x.Held)
+		pushed, _, err := r.Push(0, h26x.RTPPacket{Sequence: uint16(number), Timestamp: uint32(timestamp),
+			Marker: strings.Contains(parts[1], "m"), Payload: some(parts[2])})
+		done(t, err)
+		if wanted := answers[parts[1][len(parts[1])-1]]; pushed != wanted {
+			t.Errorf("%s: got %v", packet, pushed)
+		}
 	}
 	for {
 		unit, err := r.Next(0)
@@ -111,7 +121,7 @@ func comparesCounts(t *testing.T, r *h26x.AccessUnitReceiver, wanted []string, r
 	done(t, err)
 	got := map[string]uint64{
 		"no_unit": counted.NoUnit, "still": counted.Still, "unbelieved": counted.Unbelieved, "refused": counted.Refused,
-		"lost": counted.Lost,
+		"lost": counted.Lost, "late": counted.Late, "twice": counted.Twice, "stray": counted.Stray, "anew": counted.Anew,
 	}
 	for i := 0; i < len(wanted); i += 2 {
 		if fmt.Sprint(got[wanted[i]]) != wanted[i+1] {

@@ -120,7 +120,7 @@ func TestWantOfMemoryForFormatParameters(t *testing.T) {
 	// Go itself takes no memory for the bytes of a stream, which begins with a long SPS.
 	set := append(some("6742c01f"), bytes.Repeat([]byte{0x61}, 1<<18)...)
 	payload, held := annexB(set), make([]*h26x.FormatParameters, 0, 5000)
-	text := "profile-level-id=42C01F;sprop-parameter-sets=" + base64.StdEncoding.EncodeToString(set)
+	text := "profile-level-id=42c01f;sprop-parameter-sets=" + base64.StdEncoding.EncodeToString(set) + ";packetization-mode=1"
 	another := func() error {
 		f, err := h26x.FormatParametersOfPayload(h26x.H264, payload)
 		if err == nil {

@@ -426,9 +426,11 @@ typedef struct {
     uint16_t window;      /**< packets missing before one that waits are waited for until one came so many places, less
                            * one, ahead of it; 1 to 16384 */
     uint16_t far_away;    /**< a number so far or farther ahead of the newest that waits (where none waits, of the one that
-                           * is due), and so far behind the one that is due, waits alone until the next such number
+                           * is due), and far_behind behind the one that is due, waits alone until the next such number
                            * follows it, and then the stream begins anew with both, whatever held_limit is (RFC 3550,
                            * A.1, has 3000); 0: none is too far, and one behind is late */
+    uint16_t far_behind;  /**< how far behind the one that is due such a number is at least (RFC 3550, A.1, has 100), but
+                           * for the last 1024 that the stream passed, which are late or twice; 0: as far_away */
     bool numbers;         /**< packets bear decoding order numbers (H.265 and H.266) */
     bool avc;             /**< units are written behind lengths of four bytes, else behind 00 00 00 01 */
     bool has_sets;        /**< the decoder has the parameter sets, as from sprop-* of a session description, and can begin
@@ -442,11 +444,14 @@ typedef struct {
 enum h26x_pushed {
     H26X_HELD = 0,        /**< it waits for those before it, or to be taken, or was taken */
     H26X_PUSHED_LATE = 1, /**< dropped: *behind is how far it is behind the one that is due; of all others *behind is 0 */
-    H26X_TWICE = 2,       /**< dropped: a packet with its number waits */
+    H26X_TWICE = 2,       /**< dropped: a packet with its number waits, or was taken and is among the last 1024 */
     H26X_FULL = 3,        /**< dropped: more than held_limit bytes wait. Take access units, and give it again */
-    H26X_STRAY = 4,       /**< it waits alone, in the place of another such packet */
-    H26X_ANEW = 5         /**< it follows the one that waited alone: the stream begins anew, and what waited of the old
+    H26X_STRAY = 4,       /**< it waits alone, in the place of another such packet: its number is too far from the one that
+                           * is due, or more than a window, and than 100, ahead of those that wait */
+    H26X_ANEW = 5,        /**< it follows the one that waited alone: the stream begins anew, and what waited of the old
                            * numbers is dropped */
+    H26X_JUMPED = 6       /**< it is so far ahead, and no more than a window, or 100, from the one that waited alone: both
+                           * wait */
 };
 
 /** What is told of an access unit. */
@@ -461,7 +466,8 @@ typedef struct {
                            * begins with a delimiter, or is the first one and begins with its parameter sets */
     bool is_clean;        /**< a decoder can show it: nothing of it is missing, nor was since a keyframe that came from its
                            * first slice on with its parameter sets, in it or before it in order, or it is one. Pictures
-                           * that are disposable may be missing in part; sets that are lost with them aren't noticed. RASL
+                           * that are disposable may be missing in part, and packets that by frame numbers of H.264 bore
+                           * no reference picture; sets that are lost with them aren't noticed. RASL
                            * pictures behind a CRA with which a decoder begins, which it passes over, are clean too. A first
                            * slice is looked for among 64 units. False: ask the sender for a keyframe */
     bool is_disposable;   /**< no other picture refers to its own: those after it can be clean where it is damaged */
@@ -474,8 +480,8 @@ typedef struct {
     uint64_t taken;          /**< packets that were taken, and not refused */
     uint64_t lost;           /**< numbers that are missing before packets taken, or numbers skipped or refused, and these */
     uint64_t late;           /**< packets that came after their place was passed */
-    uint64_t twice;          /**< packets that came while one with their number waited */
-    uint64_t stray;          /**< packets whose number was too far from the one that was due */
+    uint64_t twice;          /**< packets that came while one with their number waited, or after it was taken */
+    uint64_t stray;          /**< packets that waited alone, those with which the stream began anew or jumped too */
     uint64_t refused;        /**< packets that were refused for what they are, but for those of no_unit */
     uint64_t skipped;        /**< numbers that came and bear nothing */
     uint64_t anew;           /**< how often the stream began anew */
@@ -493,6 +499,11 @@ typedef struct {
 /** A receiver of access units that takes any number as the first. H26X_UNKNOWN_CODEC, H26X_NOT_OF_THIS_CODEC (numbers for
  * H.264), H26X_OUT_OF_RANGE (a window of 0 or over 16384), H26X_OUT_OF_MEMORY. */
 H26X_API uint32_t h26x_access_units_new(const h26x_access_units_config *config, h26x_access_units *made) H26X_MUST_USE;
+
+/** Has the settings of *config from now on, for what waits and is open too, but for codec, numbers and avc, which stay and
+ * aren't looked at. It takes no memory. H26X_OUT_OF_RANGE (a window of 0 or over 16384) and H26X_WRONG_END change
+ * nothing. */
+H26X_API uint32_t h26x_access_units_set_config(h26x_access_units *u, const h26x_access_units_config *config);
 
 /** Frees it with all that waits. A handle of NULL is nothing to be freed. */
 H26X_API void h26x_access_units_free(h26x_access_units u);
@@ -766,14 +777,15 @@ H26X_API uint32_t h26x_sdp_read(uint32_t codec, const uint8_t *text, size_t text
                                 h26x_refusal *why) H26X_MUST_USE;
 
 /** What a sender says of its stream, of the bytes that it begins with (Annex B): profile, tier and level of the first SPS,
- * and the sets before the first slice. One of the codes from 33 to 35; H26X_UNKNOWN_CODEC, H26X_OUT_OF_MEMORY. */
+ * and the sets before the first slice; of H.264 packetization-mode=1 too, as packetizers send. One of the codes from 33 to 35; H26X_UNKNOWN_CODEC, H26X_OUT_OF_MEMORY. */
 H26X_API uint32_t h26x_sdp_of_payload(uint32_t codec, const uint8_t *payload, size_t payload_len, h26x_sdp *made)
     H26X_MUST_USE;
 
 /** The answer to an offered format by one of ours, or H26X_SDP_NO_ANSWER, as of two codecs; H26X_OUT_OF_MEMORY,
  * H26X_WRONG_END. To answer an offer, go through its formats in their order and for each through ours in our order of
  * preference: the first that is made is the answer, with the payload type of the offered format (RFC 3264, 6.1). It is
- * for both directions, and for unicast (RFC 6184, 8.2.2; RFC 7798, 7.2.2; RFC 9328, 7.3.2). */
+ * for both directions, and for unicast (RFC 6184, 8.2.2; RFC 7798, 7.2.2; RFC 9328, 7.3.2). An offer of a profile or level
+ * that the standard hasn't has none, nor has ours where its RFC forbids it, as a max-fs below the level's. */
 H26X_API uint32_t h26x_sdp_answer(const h26x_sdp *offered, const h26x_sdp *ours, h26x_sdp *made) H26X_MUST_USE;
 
 /** Frees them. A handle of NULL is nothing to be freed. */

@@ -25,9 +25,10 @@ uint8_t memory[ROOM + 64];
 
 // How often each answer was given.
 struct Totals {
-    uint64_t packets = 0, networks = 0, refused_settings = 0, pushed[6] = {}, bytes = 0;
+    uint64_t packets = 0, networks = 0, refused_settings = 0, pushed[7] = {}, bytes = 0;
     uint64_t no_room = 0, clean = 0, continues = 0, keyframes = 0, missing = 0, deadlines = 0;
     uint64_t disposable = 0, clean_by_sets = 0, whole_by_front = 0, clean_behind_damage = 0, bare = 0, begun[2] = {};
+    uint64_t clean_by_numbers = 0;
     h26x_access_units_counts counts{};
 };
 
@@ -36,10 +37,10 @@ using Numbers = uint64_t[sizeof(h26x_access_units_counts) / sizeof(uint64_t)];
 // The library's receiver beside the model.
 class Pair {
 public:
-    Pair(const h26x_access_units_config &config, Totals &t) : model(config), totals(t), has_sets(config.has_sets)
+    Pair(const Network &n, Totals &t) : network(n), model(n.config), totals(t), has_sets(n.config.has_sets)
     {
-        const uint32_t code = h26x_access_units_new(&config, &u);
-        is_same(code == model::Receiver::code_of(config), "h26x_access_units_new");
+        const uint32_t code = h26x_access_units_new(&network.config, &u);
+        is_same(code == model::Receiver::code_of(network.config), "h26x_access_units_new");
         is_there = code == H26X_OK;
     }
     Pair(const Pair &) = delete;
@@ -80,6 +81,12 @@ public:
         case Kind::begin_at:
             begin_at(call.number);
             break;
+        case Kind::set_config: {
+            const h26x_access_units_config &config = network.settings[call.room];
+            is_same(h26x_access_units_set_config(&u, &config) == model.set_config(config),
+                    "h26x_access_units_set_config");
+            break;
+        }
         case Kind::restart:
             is_same(h26x_access_units_restart(&u) == H26X_OK, "h26x_access_units_restart");
             model.restart();
@@ -92,6 +99,7 @@ public:
     const char *difference = nullptr;
 
 private:
+    const Network &network;
     h26x_access_units u{};
     model::Receiver model;
     Totals &totals;
@@ -166,6 +174,7 @@ private:
             totals.disposable += told.is_disposable;
             totals.clean_by_sets += told.is_clean && has_sets;
             totals.clean_behind_damage += told.is_clean && told.extra != 2 && !was_clean;
+            totals.clean_by_numbers += told.is_clean && told.extra != 2 && told.missing > 0;
             totals.whole_by_front += told.is_whole && told.missing > 0;
             was_clean = told.is_clean;
             totals.continues += told.continues;
@@ -219,7 +228,7 @@ struct Outcome {
 
 Outcome outcome_of(const Network &network, Totals &totals)
 {
-    Pair pair(network.config, totals);
+    Pair pair(network, totals);
     totals.networks++;
     if (!pair.is_there)
         totals.refused_settings++;
@@ -265,12 +274,14 @@ Network smallest(Network network)
 
 void print(const Network &network)
 {
-    static const char *const names[] = {"push", "skip", "next", "next, until none", "finish", "restart", "begin at"};
+    static const char *const names[] = {"push",   "skip",    "next",     "next, until none",
+                                        "finish", "restart", "begin at", "set settings"};
     const h26x_access_units_config &c = network.config;
-    printf("codec %u, max_wait %u, begin_wait %u, window %u, far_away %u, numbers %d, avc %d, has_sets %d,"
-           " held_limit %zu, run_limit %zu, unit_limit %zu\n",
-           c.codec, c.max_wait, c.begin_wait, c.window, c.far_away, c.numbers, c.avc, c.has_sets, c.held_limit,
-           c.run_limit, c.unit_limit);
+    printf(
+        "codec %u, max_wait %u, begin_wait %u, window %u, far_away %u, far_behind %u, numbers %d, avc %d, has_sets %d,"
+        " held_limit %zu, run_limit %zu, unit_limit %zu\n",
+        c.codec, c.max_wait, c.begin_wait, c.window, c.far_away, c.far_behind, c.numbers, c.avc, c.has_sets,
+        c.held_limit, c.run_limit, c.unit_limit);
     for (const Call &call : network.calls) {
         printf("%s at %u", names[static_cast<size_t>(call.kind)], call.now);
         if (call.kind == Kind::push || call.kind == Kind::skip || call.kind == Kind::begin_at)
@@ -299,10 +310,12 @@ const char *never(const Totals &t)
         {t.pushed[H26X_FULL], "full"},
         {t.pushed[H26X_STRAY], "stray"},
         {t.pushed[H26X_ANEW], "anew"},
+        {t.pushed[H26X_JUMPED], "jumped"},
         {t.no_room, "no room"},
         {t.clean, "clean"},
         {t.clean_by_sets, "clean by sets that the decoder has"},
         {t.clean_behind_damage, "clean behind a damaged picture"},
+        {t.clean_by_numbers, "clean behind missing packets by its frame number"},
         {t.whole_by_front, "whole behind missing numbers"},
         {t.disposable, "disposable"},
         {t.begun[0], "a first number that is said too late"},

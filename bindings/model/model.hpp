@@ -11,6 +11,7 @@
 #include <list>
 #include <map>
 #include <optional>
+#include <set>
 #include <string>
 #include <utility>
 #include <vector>
@@ -211,6 +212,130 @@ inline Bytes text_of(bool avc, const std::vector<Bytes> &units)
     return text;
 }
 
+// ---- Frame numbers of H.264 ----
+
+// The bits of a text from the first byte of a unit on, 0 behind the end: without each 3 behind two zeros, and up to what
+// ends a unit there (H.264 7.2, 7.3.1, 7.4.1, 9.1).
+struct Bits {
+    std::vector<bool> bits;
+    size_t place = 0;
+
+    explicit Bits(const Bytes &text)
+    {
+        for (size_t i = 0; i < text.size(); i++) {
+            const bool is_behind_zeros = i > 1 && byte(text, i - 1) == 0 && byte(text, i - 2) == 0;
+            if (is_behind_zeros && byte(text, i) < 3)
+                break;
+            for (int bit = is_behind_zeros && byte(text, i) == 3 ? -1 : 7; bit >= 0; bit--)
+                bits.push_back(byte(text, i) >> bit & 1);
+        }
+    }
+
+    bool u1() { return place++ < bits.size() && bits[place - 1]; }
+
+    uint64_t u(unsigned count)
+    {
+        uint64_t value = 0;
+        for (unsigned i = 0; i < count; i++)
+            value = value << 1 | u1();
+        return value;
+    }
+
+    // 32 zeros begin no number.
+    uint64_t ue()
+    {
+        for (unsigned zeros = 0; zeros < 32; zeros++)
+            if (u1())
+                return (uint64_t{1} << zeros) - 1 + u(zeros);
+        return UINT32_MAX;
+    }
+
+    int64_t se()
+    {
+        const auto k = static_cast<int64_t>(ue());
+        return k % 2 == 1 ? k / 2 + 1 : -(k / 2);
+    }
+};
+
+// How frame numbers are written, by an SPS: only those of a sender of frames alone that leaves out none tell of losses.
+struct FrameNumbers {
+    bool are_usable = false;
+    unsigned bits = 0;
+    bool has_plane = false;
+
+    bool operator==(const FrameNumbers &it) const
+    {
+        return are_usable == it.are_usable && bits == it.bits && has_plane == it.has_plane;
+    }
+
+    // That of a slice by eight bytes behind its header (H.264 7.3.3).
+    uint64_t of(const Bytes &behind) const
+    {
+        Bits it(behind);
+        it.ue();
+        it.ue();
+        it.ue();
+        it.u(has_plane ? 2 : 0);
+        return it.u(bits);
+    }
+};
+
+// H.264 7.3.2.1.1.1; a scale below 0, as no encoder has it, is 0.
+inline void pass_scaling_list(Bits &sps, unsigned size)
+{
+    int64_t last = 8, next = 8;
+    for (unsigned j = 0; j < size; j++) {
+        if (next != 0)
+            next = std::max<int64_t>(last + sps.se() + 256, 0) % 256;
+        last = next == 0 ? last : next;
+    }
+}
+
+// H.264 7.3.2.1.1, of what stands from an SPS on.
+inline FrameNumbers frame_numbers_of(const Bytes &text)
+{
+    static const std::set<unsigned> with_chroma{44, 83, 86, 100, 110, 118, 122, 128, 134, 135, 138, 139, 244};
+    FrameNumbers it;
+    Bits sps(text.substr(0, 16384));
+    sps.u(8);
+    const auto profile = static_cast<unsigned>(sps.u(8));
+    sps.u(16);
+    sps.ue();
+    if (with_chroma.count(profile) != 0) {
+        const uint64_t format = sps.ue();
+        if (format == 3)
+            it.has_plane = sps.u1();
+        sps.ue();
+        sps.ue();
+        sps.u1();
+        if (sps.u1())
+            for (unsigned i = 0; i < (format == 3 ? 12 : 8); i++)
+                if (sps.u1())
+                    pass_scaling_list(sps, i < 6 ? 16 : 64);
+    }
+    const uint64_t width = sps.ue(), order = sps.ue();
+    if (order == 0)
+        sps.ue();
+    if (order == 1) {
+        sps.u1();
+        sps.se();
+        sps.se();
+        const uint64_t cycle = sps.ue();
+        for (uint64_t i = 0; i < std::min<uint64_t>(cycle, 255); i++)
+            sps.se();
+    }
+    sps.ue();
+    const bool has_gaps = sps.u1();
+    sps.ue();
+    sps.ue();
+    const bool is_of_frames = sps.u1();
+    if (width > 12 || has_gaps || !is_of_frames)
+        return {};
+    it.bits = static_cast<unsigned>(width) + 4;
+    it.are_usable = true;
+    return it;
+}
+
 // ---- What a unit is ----
 
 // What a unit tells of its access unit, by the tables and headers of the video standards: H.264 7.3.1 to 7.3.3, H.265
@@ -222,8 +347,10 @@ struct Told {
     unsigned layers = 0;                  // temporal ones, as an SPS of H.265 has them
     std::optional<bool> is_non_reference; // as a picture header of H.266 has it
     bool is_slice = false, is_first = false, is_key = false;
-    bool is_unreferenced = false; // no picture refers to it, or of H.265 none of its temporal layer
-    unsigned layer = 0;           // its temporal layer, the lowest 1, in H.265
+    bool is_unreferenced = false;       // no picture refers to it, or of H.265 none of its temporal layer
+    unsigned layer = 0;                 // its temporal layer, the lowest 1, in H.265
+    std::optional<FrameNumbers> frames; // of an SPS of H.264
+    std::optional<Bytes> behind;        // eight bytes behind the header of a slice of H.264
 };
 
 inline Told told_h264(const Bytes &unit)
@@ -315,8 +442,8 @@ inline Shown shown_by(uint32_t codec, const Reading &reading)
     return it;
 }
 
-// The units of a text, as its reader finds them: 64 at most.
-inline std::vector<Bytes> units_in(bool avc, const Bytes &text)
+// The units of a text, as its reader finds them, 64 at most, and where each begins.
+inline std::vector<Bytes> units_in(bool avc, const Bytes &text, std::vector<size_t> &places)
 {
     static const Bytes code("\0\0\1", 3);
     std::vector<Bytes> units;
@@ -325,10 +452,12 @@ inline std::vector<Bytes> units_in(bool avc, const Bytes &text)
         size_t end;
         if (avc) {
             const size_t len = word(text, at) << 16 | word(text, at + 2);
+            places.push_back(at + 4);
             units.push_back(text.substr(at + 4, len));
             end = at + 4 + len;
         } else {
             end = text.find(code, at + 3);
+            places.push_back(at + 3);
             units.push_back(text.substr(at + 3, end - at - 3));
             // (the zero before the three bytes of a start code is of that)
             if (end != Bytes::npos && !units.back().empty() && units.back().back() == 0)
@@ -339,12 +468,18 @@ inline std::vector<Bytes> units_in(bool avc, const Bytes &text)
     return units;
 }
 
-// What is told by the units of an access unit up to its first slice.
-inline std::vector<Told> told_up_to_slice(uint32_t codec, const std::vector<Bytes> &units)
+// What is told by the units of the text of an access unit up to its first slice.
+inline std::vector<Told> told_up_to_slice(const h26x_access_units_config &config, const Bytes &text)
 {
     std::vector<Told> all;
-    for (const Bytes &unit : units) {
-        all.push_back(told_of(codec, unit));
+    std::vector<size_t> places;
+    for (const Bytes &unit : units_in(config.avc, text, places)) {
+        all.push_back(told_of(config.codec, unit));
+        const size_t place = places[all.size() - 1];
+        if (config.codec == H26X_H264 && all.back().is_sps)
+            all.back().frames = frame_numbers_of(text.substr(place));
+        if (config.codec == H26X_H264 && all.back().is_slice)
+            all.back().behind = text.substr(place + 1, 8);
         if (all.back().is_slice)
             break;
     }
@@ -422,11 +557,12 @@ struct Taken {
 struct AccessUnit {
     uint32_t timestamp = 0;
     bool continues = false;
-    bool is_first = false;  // no packet was taken before, and the number of the first isn't told
-    bool is_broken = false; // numbers are missing in it or right behind it, or a run is open at its end
-    bool has_slice = false; // something of one came
-    bool is_still = false;  // it began, by its units, at the timestamp of the one that ended right before it
-    uint32_t carried = 0;   // numbers missing of those before it that have no bytes
+    bool is_first = false;   // no packet was taken before, and the number of the first isn't told
+    bool is_broken = false;  // numbers are missing in it or right behind it, or a run is open at its end
+    bool has_slice = false;  // something of one came
+    bool is_counted = false; // a packet was taken before
+    bool is_still = false;   // it began, by its units, at the timestamp of the one that ended right before it
+    uint32_t carried = 0;    // numbers missing of those before it that have no bytes
     std::vector<Taken> packets;
 };
 
@@ -435,8 +571,8 @@ struct Given {
     Bytes bytes;
     bool is_unbroken; // from its first packet that came on
     bool follows;     // nothing is missing between that and a packet taken before
+    bool is_counted;  // one was taken before
     std::vector<Told> units;
-    bool can_go_on = false; // what was found of it
 };
 
 // How many bytes an open access unit holds: of units brought since its text was given up last.
@@ -458,6 +594,7 @@ inline Given ended_unit(const h26x_access_units_config &config, const AccessUnit
     it.told.last = unit.packets.back().number;
     it.told.continues = unit.continues;
     it.follows = !unit.is_first && unit.packets.front().missing == 0;
+    it.is_counted = unit.is_counted;
     it.is_unbroken = !unit.is_broken;
     it.told.missing = unit.carried;
     std::vector<Bytes> units;
@@ -471,7 +608,7 @@ inline Given ended_unit(const h26x_access_units_config &config, const AccessUnit
     it.bytes = text_of(config.avc, units);
     it.told.len = it.bytes.size();
     it.told.extra = extra_of(config.codec, units);
-    it.units = told_up_to_slice(config.codec, units_in(config.avc, it.bytes));
+    it.units = told_up_to_slice(config, it.bytes);
     return it;
 }
 
@@ -484,6 +621,14 @@ struct History {
     bool has_sets; // the decoder has them
     std::vector<Given> all;
     bool has_begun = false; // one ended before
+
+    // What is known behind the latest one, whatever is missing behind it: whether a decoder can go on, what all SPS tell
+    // of frame numbers, the last reference picture, by its first slice, and whether the last keyframe took more packets
+    // than one.
+    bool could_go_on = false;
+    std::optional<FrameNumbers> frames = std::nullopt;
+    std::optional<Bytes> last_reference = std::nullopt;
+    bool is_key_long = false;
 
     // The first slice, if there is one, as its picture's header has it, which may stand before it.
     std::optional<Told> slice(size_t place) const
@@ -557,14 +702,41 @@ struct History {
             && (has_sets || came_all(place));
     }
 
-    // Whether one that was given those up to it can go on: since one with which it could begin nothing is missing, but in
+    // Whether its frame number tells that no reference picture is among what is missing before it (H.264 7.4.3): that
+    // would take it further, unless numbers went round, or began anew with a keyframe, as many packets at least.
+    bool is_behind_no_loss(size_t place) const
+    {
+        const Given &unit = all[place];
+        const std::optional<Told> it = slice(place);
+        if (has_sets || !unit.is_counted || unit.told.continues || !it || it->is_key || !it->is_first)
+            return false;
+        if (!last_reference || !frames || !frames->are_usable)
+            return false;
+        const uint64_t last = frames->of(*last_reference), round = uint64_t{1} << frames->bits;
+        return frames->of(*it->behind) == (last + 1) % round && unit.told.missing < round
+            && unit.told.missing < last + (is_key_long ? 2 : 1);
+    }
+
+    // Whether one that was given those up to it can go on: since one with which it could begin nothing is missing, but
     // pictures to which no other refers.
     bool can_go_on_behind(size_t place) const
     {
         if (can_begin(place))
             return true;
-        return place > 0 && all[place].follows && all[place - 1].can_go_on
+        return could_go_on && (all[place].follows || is_behind_no_loss(place))
             && (all[place].is_unbroken || is_disposable(place));
+    }
+
+    // What its first slice tells of the last reference picture: it is its own, or the one before, or one of which not
+    // all is known.
+    std::optional<Bytes> reference_behind(size_t place) const
+    {
+        const std::optional<Told> it = slice(place);
+        if (!it)
+            return std::nullopt;
+        if (it->is_unreferenced && !it->is_key)
+            return all[place].is_counted ? last_reference : std::nullopt;
+        return all[place].is_unbroken && it->is_first ? it->behind : std::nullopt;
     }
 
     // Whether its first unit is one that stands first in an access unit: a delimiter, or in the first one a parameter set.
@@ -589,9 +761,15 @@ struct History {
         all.push_back(it);
         all.back().bytes.clear();
         const size_t place = all.size() - 1;
-        all.back().can_go_on = can_go_on_behind(place);
+        for (const Told &unit : it.units)
+            if (unit.frames)
+                frames = !frames || *frames == *unit.frames ? *unit.frames : FrameNumbers{};
+        could_go_on = can_go_on_behind(place);
+        last_reference = reference_behind(place);
+        if (const std::optional<Told> first = slice(place); first && first->is_key)
+            is_key_long = it.told.first != it.told.last;
         it.told.is_whole = is_whole(place);
-        it.told.is_clean = all.back().is_unbroken && all.back().can_go_on;
+        it.told.is_clean = all.back().is_unbroken && could_go_on;
         it.told.is_disposable = is_disposable(place);
         has_begun = true;
     }
@@ -648,10 +826,35 @@ struct Waiting {
     }
 };
 
+// Which of the last 1024 numbers that a stream passed were taken.
+struct Passed {
+    int64_t count = 0;                 // so many behind the one that is due are known
+    std::map<uint16_t, uint16_t> last; // of those taken that share a rest modulo 1024, the last one
+
+    bool has(const std::optional<int64_t> &due, uint16_t number) const
+    {
+        const uint16_t behind = due ? static_cast<uint16_t>(*due - number) : 0;
+        return behind != 0 && behind <= count;
+    }
+
+    bool has_taken(const std::optional<int64_t> &due, uint16_t number) const
+    {
+        const auto it = last.find(number % 1024);
+        return has(due, number) && it != last.end() && it->second == number;
+    }
+
+    void take(int64_t due, uint16_t number)
+    {
+        count = std::min<int64_t>(1024, count + static_cast<uint16_t>(number - due) + 1);
+        last[number % 1024] = number;
+    }
+};
+
 // What is known of the packets that were taken of a stream.
 struct Stream {
     std::optional<uint16_t> expected; // the number behind the last one that was taken or skipped, or the first, if told
     bool has_begun = false;           // a packet was taken, or the number of the first is told
+    bool has_taken = false;           // a packet was taken
     bool is_gap = false;              // numbers are missing before those that were skipped since the last packet
     uint32_t skipped_gap = 0;         // so many
     std::optional<uint32_t> marked;   // the timestamp of the access unit that ended by itself right before
@@ -683,14 +886,21 @@ public:
     uint32_t push(uint32_t now, const Packet &packet, uint16_t &behind)
     {
         behind = 0;
+        if (passed.has_taken(waiting.due, packet.number)) {
+            counts.twice++;
+            return H26X_TWICE;
+        }
         if (is_far(packet.number))
             return push_far(now, packet);
         if (is_taken_at_once(packet)) {
+            passed.take(*waiting.due, packet.number);
             waiting.due = *waiting.due + 1;
             waiting.has_begun = true;
             take(packet);
             return H26X_HELD;
         }
+        if (is_ahead(packet.number))
+            return push_ahead(now, packet);
         if (waiting.bytes() > config.held_limit)
             return H26X_FULL;
         const uint32_t answer = waiting.put(config.window, now, packet, behind);
@@ -747,8 +957,23 @@ public:
 
     void finish() { waiting.is_over = true; }
 
+    // What h26x_access_units_set_config answers.
+    uint32_t set_config(const h26x_access_units_config &c)
+    {
+        if (c.window == 0 || c.window > 16384)
+            return H26X_OUT_OF_RANGE;
+        const h26x_access_units_config old = config;
+        config = c;
+        config.codec = old.codec;
+        config.numbers = old.numbers;
+        config.avc = old.avc;
+        history.has_sets = c.has_sets;
+        return H26X_OK;
+    }
+
     void restart()
     {
+        passed = {};
         waiting = {};
         stray.reset();
         is_anew = false;
@@ -764,19 +989,59 @@ private:
     Waiting waiting;
     std::optional<Packet> stray; // the packet that waits alone
     bool is_anew = false;        // the stream has begun anew, so the access unit that is open ends
+    Passed passed;
     Stream stream;
     std::optional<Given> left; // it had no room
     History history;
 
     // RFC 3550, A.1: on the circle from the place that is due to itself, a number is behind the newest that waits, and
-    // far from both ends
+    // far from both ends, and not known
     bool is_far(uint16_t number) const
     {
-        if (config.far_away == 0 || !waiting.due)
+        if (config.far_away == 0 || !waiting.due || passed.has(waiting.due, number))
             return false;
         const int64_t place = waiting.place_of(number);
+        const int64_t back = config.far_behind == 0 ? config.far_away : config.far_behind;
         return place > waiting.newest() && place - waiting.newest() >= config.far_away
-            && *waiting.due + 65536 - place >= config.far_away;
+            && *waiting.due + 65536 - place >= back;
+    }
+
+    int reach() const { return std::max<int>(config.window, 100); }
+
+    // A place in the half of the circle that is ahead, behind those that wait.
+    bool is_beyond(int64_t place) const { return place > waiting.newest() && place - *waiting.due < 1 << 15; }
+
+    bool is_ahead(uint16_t number) const
+    {
+        if (!waiting.due)
+            return false;
+        const int64_t place = waiting.place_of(number);
+        return is_beyond(place) && place - waiting.newest() > reach();
+    }
+
+    // More than a window ahead: it waits alone, or both wait where it is near the one that does.
+    uint32_t push_ahead(uint32_t now, const Packet &packet)
+    {
+        const auto distance = [](uint16_t from, uint16_t to) { return static_cast<uint16_t>(to - from); };
+        if (!stray
+            || std::min(distance(stray->number, packet.number), distance(packet.number, stray->number)) > reach()) {
+            stray = packet;
+            counts.stray++;
+            return H26X_STRAY;
+        }
+        if (waiting.bytes() > config.held_limit)
+            return H26X_FULL;
+        const bool has_room = waiting.packets.empty() || waiting.bytes() + stray->payload.size() <= config.held_limit;
+        const bool is_joined = has_room && is_beyond(waiting.place_of(stray->number)) && stray->number != packet.number;
+        const bool is_behind = is_joined && waiting.place_of(stray->number) > waiting.place_of(packet.number);
+        uint16_t behind;
+        if (is_joined && !is_behind)
+            waiting.put(config.window, now, *stray, behind);
+        waiting.put(config.window, now, packet, behind);
+        if (is_behind)
+            waiting.put(config.window, now, *stray, behind);
+        stray.reset();
+        return H26X_JUMPED;
     }
 
     // For how long a packet waits at most.
@@ -809,6 +1074,7 @@ private:
         counts.anew++;
         counts.lost += waiting.packets.size();
         uint16_t behind;
+        passed = {};
         waiting = {};
         waiting.put(config.window, now, *stray, behind);
         waiting.put(config.window, now, packet, behind);
@@ -838,6 +1104,7 @@ private:
         for (drop_bare(); stream.ended.empty() && is_due(now); drop_bare())
             step();
         if (stream.ended.empty() && waiting.is_over) {
+            passed = {};
             waiting = {};
             stray.reset();
             end_stream();
@@ -862,8 +1129,10 @@ private:
             end_behind_missing(packet.number);
         else if (ends)
             end_by_itself(true);
-        else
+        else {
+            passed.take(waiting.has_begun ? *waiting.due : packet.number, packet.number);
             take(waiting.take_first());
+        }
     }
 
     // Access units without bytes aren't given out: what is missing of them is told with the next one.
@@ -1001,6 +1270,7 @@ private:
             stream.open->is_still = is_behind_its_own && shown.first && begins_behind_slice(*shown.first);
             stream.open->continues = is_behind_its_own && !stream.open->is_still;
             stream.open->is_first = !stream.has_begun;
+            stream.open->is_counted = stream.has_taken;
             stream.open->carried = std::exchange(stream.carried, 0);
             counts.still += stream.open->is_still;
         }
@@ -1024,7 +1294,7 @@ private:
         }
         stream.open->packets.push_back(std::move(taken));
         stream.expected = static_cast<uint16_t>(packet.number + 1);
-        stream.has_begun = true;
+        stream.has_begun = stream.has_taken = true;
         stream.is_gap = false;
         stream.skipped_gap = 0;
         stream.marked.reset();

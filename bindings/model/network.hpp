@@ -40,6 +40,13 @@ inline Bytes drawn_bytes(Random &r, size_t len)
     return bytes;
 }
 
+// An SPS of H.264 of frames, with frame numbers of 4 bits; now and then of 16, with gaps, or of fields.
+inline Bytes drawn_h264_sps(Random &r)
+{
+    const int kind = r.one_in(60) ? r.of({0xda71, 0x8d69, 0xdaf1, 0xda60}) : 0xda71;
+    return {0x67, 0x42, static_cast<char>(0xc0), 0x1e, static_cast<char>(kind >> 8), static_cast<char>(kind & 255)};
+}
+
 inline Bytes drawn_unit(Random &r, uint32_t codec)
 {
     Bytes unit = drawn_bytes(r, r.one_in(300) ? r.from(100, 2500) : r.one_in(3) ? r.from(3, 40) : r.from(3, 12));
@@ -48,6 +55,8 @@ inline Bytes drawn_unit(Random &r, uint32_t codec)
     };
     if (codec == H26X_H264) {
         unit[0] = static_cast<char>((r.below(4) << 5) | type({1, 1, 1, 2, 5, 5, 6, 7, 7, 8, 8, 9, 23}, 32));
+        if ((unit[0] & 31) == 7 && !r.one_in(30))
+            unit = drawn_h264_sps(r);
     } else if (codec == H26X_H265) {
         unit[0] = static_cast<char>(type({0, 1, 1, 2, 15, 16, 19, 21, 22, 32, 33, 34, 35, 39}, 64) << 1 | r.one_in(9));
         unit[1] = static_cast<char>(r.one_in(4) ? r.below(256) : 1 + r.one_in(4));
@@ -78,11 +87,13 @@ inline std::vector<Bytes> drawn_access_unit(Random &r, uint32_t codec)
         if (has_delimiter)
             add({0x09, 0xf0});
         if (has_sets) {
-            add({0x67, 0x42, 0xc0});
+            units.push_back(drawn_h264_sps(r));
             add({0x68, 0xce});
         }
+        const int number = static_cast<int>(is_key ? 0 : r.below(r.one_in(8) ? 16 : 5));
+        const int first = is_key ? 0x88 : 0x9a | number >> 3, behind = is_key ? 0x80 : (number & 7) << 5;
         for (size_t i = 0; i < slices; i++)
-            add({is_key ? 0x65 : is_referred ? 0x41 : 0x01, i == 0 ? 0x88 : 0x40});
+            add({is_key ? 0x65 : is_referred ? 0x41 : 0x01, i == 0 ? first : 0x40, behind});
     } else if (codec == H26X_H265) {
         if (has_delimiter)
             add({0x46, 1, 0x50});
@@ -233,6 +244,14 @@ inline Packets without_units(uint32_t codec, bool numbers)
     return {Bytes("\0\xa9", 2) + behind, Bytes("\0\xb1", 2) + behind};
 }
 
+// Pictures of H.264 by their frame numbers of 4 bits, as packets: one that others refer to, or none does.
+inline Packets picture_of(uint32_t number, bool is_referred)
+{
+    const Bytes slice{static_cast<char>(is_referred ? 0x41 : 0x01), static_cast<char>(0x9a | (number >> 3 & 1)),
+                      static_cast<char>((number & 7) << 5 | 0x10)};
+    return {slice};
+}
+
 // What streams of a codec are drawn from: access units of both packetizers, packets that bear no unit, and those that
 // nobody should send.
 struct Pool {
@@ -240,6 +259,16 @@ struct Pool {
     bool numbers;
     std::vector<Packets> units;
     Packets hostile, without;
+    std::vector<Packets> pictures; // of H.264: keyframes of several packets and of one, then pictures by their numbers,
+                                   // 16 to which others refer and 16 to which none does
+
+    void draw_pictures()
+    {
+        const Bytes sps("\x67\x42\xc0\x1e\xda\x71", 6), pps("\x68\xce", 2), idr("\x65\x88\x84", 3);
+        pictures = {{sps, pps, idr}, {"\x78" + word_of(6) + sps + word_of(2) + pps + word_of(3) + idr}};
+        for (uint32_t i = 0; i < 32; i++)
+            pictures.push_back(picture_of(i % 16, i < 16));
+    }
 
     void renew(Random &r, h26x_packetizer *p, size_t place)
     {
@@ -274,7 +303,9 @@ struct Pools {
     explicit Pools(Random &r)
     {
         for (uint32_t i = 0; i < 5; i++) {
-            Pool pool{H26X_H264 + (i + 1) / 2, i == 2 || i == 4, {}, {}, {}};
+            Pool pool{H26X_H264 + (i + 1) / 2, i == 2 || i == 4, {}, {}, {}, {}};
+            if (pool.codec == H26X_H264)
+                pool.draw_pictures();
             pool.without = without_units(pool.codec, pool.numbers);
             pool.units.assign(2 * IN_POOL, Packets{Bytes("\x01\x02\x03", 3)});
             pool.hostile.resize(IN_POOL);
@@ -303,7 +334,7 @@ struct Pools {
 
 // ---- Calls ----
 
-enum class Kind : uint8_t { push, skip, next, next_all, finish, restart, begin_at };
+enum class Kind : uint8_t { push, skip, next, next_all, finish, restart, begin_at, set_config };
 
 struct Call {
     Kind kind;
@@ -311,12 +342,13 @@ struct Call {
     uint16_t number;
     uint32_t now, timestamp;
     const Bytes *payload; // of a packet
-    uint32_t room;        // of Kind::next
+    uint32_t room;        // of Kind::next; of Kind::set_config the place of the settings
 };
 
 struct Network {
     h26x_access_units_config config;
     std::vector<Call> calls;
+    std::vector<h26x_access_units_config> settings; // later ones
 };
 
 inline h26x_access_units_config drawn_config(Random &r, const Pool &pool)
@@ -335,6 +367,7 @@ inline h26x_access_units_config drawn_config(Random &r, const Pool &pool)
                                            : r.one_in(3) ? r.from(1, 40)
                                            : r.one_in(4) ? r.below(65536)
                                                          : r.of({100u, 3000u}));
+    c.far_behind = static_cast<uint16_t>(r.one_in(3) ? 0 : r.one_in(2) ? r.from(1, 60) : r.of({100u, 65535u}));
     c.max_wait = r.one_in(3) ? UINT32_MAX : r.one_in(8) ? static_cast<uint32_t>(r.draw()) : r.below(60);
     c.begin_wait = r.one_in(2) ? 0 : r.one_in(3) ? UINT32_MAX : r.below(60);
     c.has_sets = r.one_in(3);
@@ -391,6 +424,8 @@ private:
     const uint32_t loss = r.of({0u, 3u, 10u, 100u}), bursts = r.of({0u, 0u, 50u});
     const uint32_t twice = r.of({0u, 0u, 5u, 50u}), swaps = r.of({0u, 2u, 10u}), depth = r.of({3u, 6u, 20u, 200u});
     const uint32_t again = r.of({0u, 2u}), lateness = r.of({3u, 20u, 250u});
+    const bool is_in_order = !pool.pictures.empty() && r.one_in(3);
+    uint32_t picture = 0; // the number of the next one
     const uint32_t ticks = r.of({0u, 1u, 3u, 20u}), takes = r.of({1u, 1u, 1u, 3u, 50u}), rooms = r.of({0u, 0u, 2u});
 
     Call &call(Kind kind)
@@ -482,9 +517,21 @@ private:
         }
     }
 
+    // A sender of pictures in their order takes the next one, a keyframe now and then.
+    const Packets &next_picture()
+    {
+        if (picture == 0 || r.one_in(30)) {
+            picture = 1;
+            return pool.pictures[r.below(2)];
+        }
+        if (r.one_in(6))
+            return pool.pictures[18 + picture % 16];
+        return pool.pictures[2 + picture++ % 16];
+    }
+
     void send_unit()
     {
-        const Packets &packets = r.in(pool.units);
+        const Packets &packets = is_in_order ? next_picture() : r.in(pool.units);
         const bool ends = r.one_in(without); // the marker stands on what follows the last one
         for (size_t i = 0; i < packets.size(); i++) {
             send_between();
@@ -505,7 +552,16 @@ private:
                                                         : r.one_in(2) ? 0 - far - r.below(5) + 2
                                                                       : r.of({10000u, 45536u, 32768u, 32767u}));
         Call stray{Kind::push, r.one_in(3), static_cast<uint16_t>(number + jump), 0, timestamp, nullptr, 0};
-        switch (r.below(9)) {
+        switch (r.below(11)) {
+        case 9: // other settings, mostly of the jitter buffer alone
+            it.settings.push_back(drawn_config(r, pool));
+            if (r.one_in(2))
+                it.settings.back().has_sets = it.config.has_sets;
+            call(Kind::set_config).room = static_cast<uint32_t>(it.settings.size() - 1);
+            break;
+        case 10: // numbers that are lost, so many that what follows waits alone first
+            number = static_cast<uint16_t>(number + (r.one_in(2) ? 100 : it.config.window) + r.below(8));
+            break;
         case 0: // the sender begins anew
             number = static_cast<uint16_t>(number + jump);
             break;
@@ -546,7 +602,8 @@ private:
         it.config.far_away = 0;
         send_unit();
         const uint16_t ahead = static_cast<uint16_t>(number + 32768 - r.below(80));
-        come({Kind::push, false, ahead, 0, timestamp, &r.in(pool.hostile), 0});
+        for (uint16_t k = 0; k < 2; k++) // the first alone would wait apart
+            come({Kind::push, false, static_cast<uint16_t>(ahead + k), 0, timestamp, &r.in(pool.hostile), 0});
         for (sent = 0; sent < 34000;)
             send_unit();
     }

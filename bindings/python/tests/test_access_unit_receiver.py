@@ -107,7 +107,7 @@ def test_packets_missing_late_and_twice(codec: Codec) -> None:
     gives(receiver, 100)
     pushes(receiver, 101, (1, 3000, True, end))
     pushes(receiver, 101, (1, 3000, True, end), TWICE)
-    pushes(receiver, 101, (65535, 3000, False, start), LATE, 1)
+    pushes(receiver, 101, (65535, 3000, False, start), TWICE)
     gives(receiver, 101)
     assert receiver.missing() == [0]
     pushes(receiver, 102, (0, 3000, False, middle))
@@ -125,7 +125,25 @@ def test_packets_missing_late_and_twice(codec: Codec) -> None:
     two = one(codec, 9000, 5, slice_, missing=1), one(codec, 12000, 6, slice_, is_whole=True)
     gives(receiver, 204, *two)
     pushes(receiver, 205, (4, 9000, True, slice_), LATE, 3)
-    assert receiver.counts() == Counts(taken=7, lost=2, late=2, twice=1, units=5, whole=2)
+    assert receiver.counts() == Counts(taken=7, lost=2, late=1, twice=2, units=5, whole=2)
+
+
+def test_settings_that_change(codec: Codec) -> None:
+    """While a packet waits: with a window of 1 it is due."""
+    receiver, (key, slice_) = AccessUnitReceiver(codec, SMALL), PICTURES[codec]
+    pushes(receiver, 0, (10, 0, True, key))
+    gives(receiver, 100, one(codec, 0, 10, key, is_clean=True))
+    pushes(receiver, 100, (12, 3000, True, slice_))
+    for window in (0, 2**14 + 1):
+        with pytest.raises(OutOfRange):
+            receiver.set_config(replace(SMALL, window=window))
+        gives(receiver, 100)
+        assert receiver.deadline() == 200
+    receiver.set_config(AT_ONCE)
+    gives(receiver, 100, one(codec, 3000, 12, slice_, missing=1))
+    receiver.close()
+    with pytest.raises(ValueError):
+        receiver.set_config(AT_ONCE)
 
 
 def test_markers_of_peers(codec: Codec) -> None:
@@ -176,8 +194,8 @@ def test_numbers_that_bear_nothing(codec: Codec) -> None:
     assert receiver.skip(0, 4) == (HELD, 0)
     pushes(receiver, 0, (5, 6000, True, slice_))
     gives(receiver, 0, one(codec, 6000, 5, slice_, missing=1))
-    assert receiver.skip(0, 4) == (LATE, 2)
-    assert receiver.counts() == Counts(taken=5, lost=1, late=1, skipped=3, units=3, whole=1)
+    assert receiver.skip(0, 4) == (TWICE, 0)
+    assert receiver.counts() == Counts(taken=5, lost=1, twice=1, skipped=3, units=3, whole=1)
 
 
 def test_strays_and_a_stream_that_begins_anew(codec: Codec) -> None:
@@ -299,7 +317,7 @@ def test_defaults() -> None:
     gives(receiver, 2**32 - 1, one(Codec.H264, 3000, 1002, slice_, missing=1))
     # The newest that waits is 1513: 4512 is 2999 ahead.
     pushes(receiver, 0, (4513, 12000, True, slice_), STRAY)
-    pushes(receiver, 0, (4512, 12000, True, slice_))
+    pushes(receiver, 0, (4512, 12000, True, slice_), Pushed.JUMPED)
     # 8,000,000 bytes may wait, and a packet.
     receiver = AccessUnitReceiver(Codec.H264, AccessUnitConfig(window=1 << 14))
     packet = b"\x61" + bytes(49_999)

@@ -12,7 +12,14 @@ TEXT = Path(__file__).parents[2] / "streams" / "access_units.txt"
 ROWS = [
     row for row in TEXT.read_text(encoding="utf-8").replace("\\\n", "").splitlines() if row[0] != "#"
 ]
-COUNTS = ("no_unit", "still", "unbelieved", "refused", "lost")
+COUNTS = ("no_unit", "still", "unbelieved", "refused", "lost", "late", "twice", "stray", "anew")
+ANSWERS = {
+    "l": Pushed.LATE,
+    "t": Pushed.TWICE,
+    "s": Pushed.STRAY,
+    "a": Pushed.ANEW,
+    "j": Pushed.JUMPED,
+}
 
 
 def push(receiver: AccessUnitReceiver, packet: str) -> List[AccessUnit]:
@@ -21,10 +28,10 @@ def push(receiver: AccessUnitReceiver, packet: str) -> List[AccessUnit]:
         receiver.finish()
     else:
         number, timestamp, data = packet.split(":")
-        rtp = RtpPacket(
-            int(number), int(timestamp.rstrip("m")), timestamp.endswith("m"), some(data)
-        )
-        assert receiver.push(0, rtp) == (Pushed.HELD, 0)
+        tick = timestamp.rstrip("".join(ANSWERS) + "m")
+        pushed = ANSWERS.get(timestamp[-1], Pushed.HELD)
+        rtp = RtpPacket(int(number), int(tick), "m" in timestamp, some(data))
+        assert receiver.push(0, rtp)[0] == pushed
     return list(receiver.units(0))
 
 

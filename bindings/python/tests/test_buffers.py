@@ -112,7 +112,7 @@ def test_each_call_reads_what_is_there(place: int) -> None:
 def test_the_sets_of_a_stream_are_read(place: int) -> None:
     sets = forms(some("000001 6742c01f 000001 68ce"))[place]
     told = str(FormatParameters.of_payload(Codec.H264, sets))
-    assert told == "profile-level-id=42C01F;sprop-parameter-sets=Z0LAHw==,aM4="
+    assert told == "profile-level-id=42c01f;sprop-parameter-sets=Z0LAHw==,aM4=;packetization-mode=1"
 
 
 @pytest.mark.parametrize(

@@ -1,12 +1,14 @@
 -- What is known of a decoder is what the whole list of access units tells.
-use Rattle.std.proofs.Common.{◌≡◌, ◌∙◌, ap, sym, refl, ℕ, Bool, true, false, cond, List, [], ◌∷◌, inl, inr}
+use Rattle.std.proofs.Common.{◌≡◌, ◌∙◌, ap, sym, refl, ℕ, Bool, true, false, cond, List, [], ◌∷◌, Option, inl, inr}
 use Rattle.std.specs.Prelude.{◌↔◌, ◌⊎◌, ◌==◌, ◌||◌, ◌&&◌, not}
 use Rattle.h26x_core.specs.declared.extra.CodecExtra.{CodecExtra}
 use Rattle.h26x_core.specs.declared.extra.CodecExtra.TheVariants as extras
 use Rattle.h26x_access_units.specs.declared.content.ParameterSets.{ParameterSets}
 use Rattle.h26x_access_units.specs.Content.{no_sets, joined_sets}
-use Rattle.h26x_access_units.specs.Decoder.{are_enough, is_first_key, is_disposable, sets_after, layer_after, can_begin, can_go_on, shows}
-use Rattle.h26x_access_units.specs.Decodable.{GivenUnit, decoder_behind, HasCome, in_last, in_earlier, HaveTwoSetsCome, HaveSetsCome, known_layer, BeginsDecoding, GoesOnDecoding, IsDecodable, begins, goes_on, IsCleanWhereDecodable}
+use Rattle.h26x_access_units.specs.Decoder.{are_enough, is_first_key, is_first_other, is_disposable, sets_after, layer_after, head_after, long_key_after, is_behind_no_loss, can_begin, can_go_on, shows}
+use Rattle.h26x_access_units.specs.FrameNumber.{joined_numbering, tells_none_lost}
+use Rattle.h26x_access_units.specs.declared.frame_number.Numbering.{Numbering}
+use Rattle.h26x_access_units.specs.Decodable.{GivenUnit, decoder_behind, HasCome, in_last, in_earlier, HaveTwoSetsCome, HaveSetsCome, known_layer, known_numbering, known_head, has_long_key, BeginsDecoding, IsBehindNoLoss, GoesOnDecoding, IsDecodable, begins, goes_on, IsCleanWhereDecodable}
 
 -- one of two holds
 one_of : (a b : Bool) → (a || b) ≡ true → (a ≡ true) ⊎ (b ≡ true)
@@ -117,6 +119,55 @@ same_layer has_sets (u ∷ before) =
 same_disposable : (has_sets : Bool) (u : GivenUnit) (before : List GivenUnit) → is_disposable (layer_after (decoder_behind has_sets before) u.numbers u.content) u.content.slice ≡ is_disposable (known_layer (u ∷ before)) u.content.slice
 same_disposable has_sets u before = ap (λ (n : ℕ). is_disposable n u.content.slice) (same_layer has_sets (u ∷ before))
 
+-- what is known of frame numbers
+same_numbering : (has_sets : Bool) (units : List GivenUnit) → (decoder_behind has_sets units).numbering ≡ known_numbering units
+same_numbering has_sets [] = refl
+same_numbering has_sets (u ∷ before) = ap (λ (n : Numbering). joined_numbering n u.content.numbering) (same_numbering has_sets before)
+
+same_head : (has_sets : Bool) (units : List GivenUnit) → (decoder_behind has_sets units).last_head ≡ known_head units
+same_head has_sets [] = refl
+same_head has_sets (u ∷ before) = ap (λ (head : Option (List ℕ)). head_after head u.is_unbroken u.numbers u.content) (same_head has_sets before)
+
+same_long_key : (has_sets : Bool) (units : List GivenUnit) → (decoder_behind has_sets units).has_long_key ≡ has_long_key units
+same_long_key has_sets [] = refl
+same_long_key has_sets (u ∷ before) = ap (λ (b : Bool). long_key_after b u.numbers u.content.slice) (same_long_key has_sets before)
+
+same_told : (has_sets : Bool) (u : GivenUnit) (before : List GivenUnit) →
+    let d = decoder_behind has_sets before in
+    tells_none_lost (joined_numbering d.numbering u.content.numbering) d.has_long_key d.last_head u.content.head u.numbers.missing
+    ≡ tells_none_lost (known_numbering (u ∷ before)) (has_long_key before) (known_head before) u.content.head u.numbers.missing
+same_told has_sets u before =
+    let d = decoder_behind has_sets before in
+    let n = known_numbering (u ∷ before) in
+    ap (λ (it : Numbering). tells_none_lost it d.has_long_key d.last_head u.content.head u.numbers.missing) (same_numbering has_sets (u ∷ before))
+    ∙ ap (λ (b : Bool). tells_none_lost n b d.last_head u.content.head u.numbers.missing) (same_long_key has_sets before)
+    ∙ ap (λ (head : Option (List ℕ)). tells_none_lost n (has_long_key before) head u.content.head u.numbers.missing) (same_head has_sets before)
+
+no_loss_where : (has_sets : Bool) (u : GivenUnit) (before : List GivenUnit) → is_behind_no_loss (decoder_behind has_sets before) has_sets u.numbers u.content ≡ true → IsBehindNoLoss has_sets u before
+no_loss_where has_sets u before e =
+    let d = decoder_behind has_sets before in
+    let told = tells_none_lost (joined_numbering d.numbering u.content.numbering) d.has_long_key d.last_head u.content.head u.numbers.missing in
+    let a = both (not has_sets) (u.numbers.is_counted && (not u.numbers.continues && (is_first_other u.content.slice && told))) e in
+    let b = both u.numbers.is_counted (not u.numbers.continues && (is_first_other u.content.slice && told)) a.1 in
+    let k = both (not u.numbers.continues) (is_first_other u.content.slice && told) b.1 in
+    let l = both (is_first_other u.content.slice) told k.1 in
+    record {
+      in_band = holds_not has_sets a.0;
+      counted = b.0;
+      own = holds_not u.numbers.continues k.0;
+      first = l.0;
+      told = sym (same_told has_sets u before) ∙ l.1;
+    }
+
+no_loss_known : (has_sets : Bool) (u : GivenUnit) (before : List GivenUnit) → IsBehindNoLoss has_sets u before → is_behind_no_loss (decoder_behind has_sets before) has_sets u.numbers u.content ≡ true
+no_loss_known has_sets u before it =
+    let d = decoder_behind has_sets before in
+    let told = tells_none_lost (joined_numbering d.numbering u.content.numbering) d.has_long_key d.last_head u.content.head u.numbers.missing in
+    both_hold (not has_sets) (u.numbers.is_counted && (not u.numbers.continues && (is_first_other u.content.slice && told))) (not_holds has_sets it.in_band)
+    (both_hold u.numbers.is_counted (not u.numbers.continues && (is_first_other u.content.slice && told)) it.counted
+    (both_hold (not u.numbers.continues) (is_first_other u.content.slice && told) (not_holds u.numbers.continues it.own)
+    (both_hold (is_first_other u.content.slice) told it.first (same_told has_sets u before ∙ it.told))))
+
 -- a decoder begins
 begins_where : (has_sets : Bool) (u : GivenUnit) (before : List GivenUnit) → can_begin (decoder_behind has_sets before) has_sets u.is_unbroken u.extra u.numbers u.content ≡ true → BeginsDecoding has_sets u before
 begins_where has_sets u before e =
@@ -151,13 +202,17 @@ decodable_where has_sets [] e = absurd (let bad = e in cc)
 decodable_where has_sets (u ∷ before) e =
     let d = decoder_behind has_sets before in
     let disposable = is_disposable (layer_after d u.numbers u.content) u.content.slice in
-    elim (one_of (can_begin d has_sets u.is_unbroken u.extra u.numbers u.content) (can_go_on d u.is_unbroken u.numbers u.content) e) [
+    elim (one_of (can_begin d has_sets u.is_unbroken u.extra u.numbers u.content) (can_go_on d has_sets u.is_unbroken u.numbers u.content) e) [
       | inl can ↦ begins (begins_where has_sets u before can)
       | inr can ↦
-          let a = both d.is_clean (u.numbers.follows && (u.is_unbroken || disposable)) can in
-          let b = both u.numbers.follows (u.is_unbroken || disposable) a.1 in
+          let no_loss = is_behind_no_loss d has_sets u.numbers u.content in
+          let a = both d.is_clean ((u.numbers.follows || no_loss) && (u.is_unbroken || disposable)) can in
+          let b = both (u.numbers.follows || no_loss) (u.is_unbroken || disposable) a.1 in
           goes_on {u = u} (decodable_where has_sets before a.0) (record {
-            follows = b.0;
+            reached = elim (one_of u.numbers.follows no_loss b.0) [
+              | inl follows ↦ inl follows
+              | inr told ↦ inr (no_loss_where has_sets u before told)
+            ];
             kept = elim (one_of u.is_unbroken disposable b.1) [
               | inl whole ↦ inl whole
               | inr lost ↦ inr (sym (same_disposable has_sets u before) ∙ lost)
@@ -169,7 +224,7 @@ clean_where : (has_sets : Bool) (units : List GivenUnit) → IsDecodable has_set
 clean_where has_sets [] it = elim it [ ]
 clean_where has_sets (u ∷ before) (begins it) =
     let d = decoder_behind has_sets before in
-    left_holds (can_begin d has_sets u.is_unbroken u.extra u.numbers u.content) (can_go_on d u.is_unbroken u.numbers u.content) (begun_where has_sets u before it)
+    left_holds (can_begin d has_sets u.is_unbroken u.extra u.numbers u.content) (can_go_on d has_sets u.is_unbroken u.numbers u.content) (begun_where has_sets u before it)
 clean_where has_sets (u ∷ before) (goes_on earlier it) =
     let d = decoder_behind has_sets before in
     let disposable = is_disposable (layer_after d u.numbers u.content) u.content.slice in
@@ -177,9 +232,14 @@ clean_where has_sets (u ∷ before) (goes_on earlier it) =
       | inl whole ↦ left_holds u.is_unbroken disposable whole
       | inr lost ↦ right_holds u.is_unbroken disposable (same_disposable has_sets u before ∙ lost)
     ] in
-    right_holds (can_begin d has_sets u.is_unbroken u.extra u.numbers u.content) (can_go_on d u.is_unbroken u.numbers u.content)
-    (both_hold d.is_clean (u.numbers.follows && (u.is_unbroken || disposable)) (clean_where has_sets before earlier)
-    (both_hold u.numbers.follows (u.is_unbroken || disposable) it.follows kept))
+    let no_loss = is_behind_no_loss d has_sets u.numbers u.content in
+    let reached : (u.numbers.follows || no_loss) ≡ true = elim (it.reached) [
+      | inl follows ↦ left_holds u.numbers.follows no_loss follows
+      | inr told ↦ right_holds u.numbers.follows no_loss (no_loss_known has_sets u before told)
+    ] in
+    right_holds (can_begin d has_sets u.is_unbroken u.extra u.numbers u.content) (can_go_on d has_sets u.is_unbroken u.numbers u.content)
+    (both_hold d.is_clean ((u.numbers.follows || no_loss) && (u.is_unbroken || disposable)) (clean_where has_sets before earlier)
+    (both_hold (u.numbers.follows || no_loss) (u.is_unbroken || disposable) reached kept))
 
 -- so of what is told of the last one
 pub clean_is_decodable : (has_sets : Bool) (u : GivenUnit) (before : List GivenUnit) → IsCleanWhereDecodable has_sets u before

@@ -13,9 +13,9 @@ use Rattle.h26x_reorder.specs.ReorderBuffer.{begun_at}
 use Rattle.h26x_access_units.specs.JitterBuffer.{JitterState, may_tell_first, begun_jitter}
 use Rattle.h26x_access_units.specs.ReceivedAccessUnit.{ReceivedAccessUnitValue, decoder_with}
 use Rattle.h26x_access_units.specs.Decoder.{shows}
-use Rattle.h26x_access_units.specs.Reception.{Reception, after_reception, is_taken_at_once, IsDueTaken, IsEndedBefore, is_behind_missing, ended_behind_missing, ended_by_content, IsPushed, IsDrained, none, bare, more, behind, bare_passed, without_bare, without_bare_of, ended_if_anew, ended_if_over, has_no_unit, unit_given, unit_given_of, without_given, without_given_of, begun_reception, IsNext}
+use Rattle.h26x_access_units.specs.Reception.{Reception, after_reception, is_taken_at_once, IsDueTaken, IsEndedBefore, is_behind_missing, ended_behind_missing, ended_by_content, IsPushed, IsDrained, none, bare, more, behind, bare_passed, without_bare, without_bare_of, ended_if_anew, ended_if_over, has_no_unit, unit_given, unit_given_of, without_given, without_given_of, begun_reception, with_settings, IsNext}
 use Rattle.h26x_access_units.specs.Decodable.{GivenUnit, decoder_behind, given_unit, WereGiven, IsToldClean, IsGivenBehind}
-use Rattle.h26x_access_units.proofs.LimitLemmas.{config_stays, anew_config}
+use Rattle.h26x_access_units.proofs.LimitLemmas.{config_stays, anew_config, joined_config}
 use Rattle.h26x_access_units.proofs.DecodableLemmas.{clean_is_decodable}
 
 -- where the settings and what is known of a decoder stay
@@ -30,6 +30,7 @@ pushed_given now units s p (pushes.Late n) given = stays units s (after_receptio
 pushed_given now units s p pushes.Twice given = stays units s (after_reception now s p pushes.Twice) refl (config_stays now s.waiting p pushes.Twice) given
 pushed_given now units s p pushes.Full given = stays units s (after_reception now s p pushes.Full) refl (config_stays now s.waiting p pushes.Full) given
 pushed_given now units s p pushes.Stray given = given
+pushed_given now units s p pushes.Jumped given = stays units s (after_reception now s p pushes.Jumped) refl (joined_config now s.waiting s.stray p) given
 pushed_given now units s p pushes.Anew given = stays units s (after_reception now s p pushes.Anew) refl (anew_config now s.waiting.config s.stray p) given
 
 -- nor one that is taken
@@ -130,3 +131,7 @@ begun_given number units s given = elim (may_tell_first s.waiting) as (λ b. Wer
   | true ↦ stays units s (record s { waiting = begun_jitter number s.waiting; assembler = record s.assembler { expected = Some number }; numbers = begun_numbers_at s.numbers }) refl (begun_config number s.waiting) given
   | false ↦ given
 ]
+
+-- nor do other settings, where the decoder has the sets as before
+pub settings_given : (config : AccessUnitConfig) (s : Reception) (units : List GivenUnit) → config.has_sets ≡ s.waiting.config.has_sets → WereGiven units s → WereGiven units (with_settings config s)
+settings_given config s units same given = given ∙ ap (λ (b : Bool). decoder_behind b units) (sym same)

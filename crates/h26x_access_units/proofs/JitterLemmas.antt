@@ -4,9 +4,9 @@ use Rattle.std.specs.Prelude.{◌==◌, ◌||◌, ◌&&◌, nat_lt, nat_le}
 use Rattle.std.proofs.lemmas.Bool.Decides.{nat_tests}
 use Rattle.h26x_core.specs.Sequence.{distance_ahead, is_late}
 use Rattle.h26x_reorder.specs.Rtp.{RtpBody, rtp_body}
-use Rattle.h26x_reorder.specs.ReorderBuffer.{BufferState, buffer_state, due_at, put_packet, is_number_held, push_answer, after_push, AreHeldInOrder, IsHeldInOrder}
+use Rattle.h26x_reorder.specs.ReorderBuffer.{BufferState, buffer_state, newest_of, due_at, put_packet, is_number_held, push_answer, after_push, AreHeldInOrder, IsHeldInOrder}
 use Rattle.h26x_reorder.specs.declared.pushed.Pushed.TheVariants as pushes
-use Rattle.h26x_access_units.specs.JitterBuffer.{held_bytes, newest_of, is_outside, is_far}
+use Rattle.h26x_access_units.specs.JitterBuffer.{held_bytes, is_outside, far_back, is_far}
 
 -- a packet whose number is not held adds its bytes
 pub put_bytes : (due : ℕ) (p : ℕ × RtpBody) (held : List (ℕ × RtpBody)) → is_number_held p.0 held ≡ false →
@@ -59,9 +59,9 @@ newest_small due held small order = elim (length held == 0) as (λ b. cond b due
 ]
 
 -- a number less far ahead of the one that is due is not too far
-near_not_outside : (far due newest number : ℕ) → due < 65536 → newest < 65536 → number < 65536 → distance_ahead due number < far → is_outside far due newest number ≡ false
-near_not_outside far due newest number due_small newest_is number_is near =
-    elim (nat_lt (distance_ahead due newest) (distance_ahead due number)) as (λ b. nat_lt (distance_ahead due newest) (distance_ahead due number) ≡ b → (b && (nat_le far (distance_ahead newest number) && nat_le far (distance_ahead number due))) ≡ false) [
+near_not_outside : (far behind due newest number : ℕ) → due < 65536 → newest < 65536 → number < 65536 → distance_ahead due number < far → is_outside far behind due newest number ≡ false
+near_not_outside far behind due newest number due_small newest_is number_is near =
+    elim (nat_lt (distance_ahead due newest) (distance_ahead due number)) as (λ b. nat_lt (distance_ahead due newest) (distance_ahead due number) ≡ b → (b && (nat_le far (distance_ahead newest number) && nat_le behind (distance_ahead number due))) ≡ false) [
       | true ↦ λ e.
           let beyond : distance_ahead due newest < distance_ahead due number = grind (arith, nat_tests) in
           let less : distance_ahead newest number < far = omega (arith, beyond, near, due_small, newest_is, number_is) in
@@ -70,11 +70,11 @@ near_not_outside far due newest number due_small newest_is number_is near =
       | false ↦ λ e. refl
     ] refl
 
-pub near_not_far : (far : ℕ) (b : BufferState RtpBody) (due number : ℕ) → b.due ≡ Some due → IsHeldInOrder b.due b.held → number < 65536 → distance_ahead due number < far → is_far far b number ≡ false
-near_not_far far b due number is order number_is near =
+pub near_not_far : (far behind : ℕ) (b : BufferState RtpBody) (due number : ℕ) → b.due ≡ Some due → IsHeldInOrder b.due b.held → number < 65536 → distance_ahead due number < far → is_far far behind b number ≡ false
+near_not_far far behind b due number is order number_is near =
     let at : IsHeldInOrder (Some due) b.held = subst (λ (d : Option ℕ). IsHeldInOrder d b.held) is order in
-    let no = near_not_outside far due (newest_of due b.held) number at.0 (newest_small due b.held at.0 at.1) number_is near in
-    ap (λ (d : Option ℕ). is_far far (buffer_state b.window d b.held) number) is ∙ elim (far == 0) as (λ z. cond z false (is_outside far due (newest_of due b.held) number) ≡ false) [
+    let no = near_not_outside far (far_back far behind) due (newest_of due b.held) number at.0 (newest_small due b.held at.0 at.1) number_is near in
+    ap (λ (d : Option ℕ). is_far far behind (buffer_state b.window d b.held) number) is ∙ elim (far == 0) as (λ z. cond z false (is_outside far (far_back far behind) due (newest_of due b.held) number) ≡ false) [
       | true ↦ refl
       | false ↦ no
     ]

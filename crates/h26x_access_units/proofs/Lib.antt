@@ -1,7 +1,10 @@
 pub mod PassedLemmas
+pub mod TakenLemmas
 pub mod WaitingLemmas
 pub mod ExactLemmas
 pub mod JitterLemmas
+pub mod BitLemmas
+pub mod LostLemmas
 pub mod ContentLemmas
 pub mod LimitLemmas
 pub mod ReceptionLemmas

@@ -1,6 +1,6 @@
 -- What a receiver holds stays within its limits.
 use Rattle.std.proofs.Common.{◌≡◌, ◌∙◌, ap, sym, subst, refl, ℕ, ◌+◌, ◌≤◌, Bool, true, false, cond, List, [], ◌∷◌, length, Option, Some, None, Result, Ok, Err, arith, inl, inr}
-use Rattle.std.specs.Prelude.{◌==◌, ◌||◌, ◌&&◌, nat_lt, nat_le, max, IfOk, OnOk, OnErr, MatchBool}
+use Rattle.std.specs.Prelude.{◌==◌, ◌||◌, ◌&&◌, nat_lt, nat_le, max, IfOk, IfErr, OnOk, OnErr, MatchBool}
 use Rattle.std.specs.Option.{option_map}
 use Rattle.std.proofs.lemmas.Bool.Decides.{nat_tests}
 use Rattle.h26x_core.specs.declared.error.PacketError.{PacketError}
@@ -11,17 +11,20 @@ use Rattle.h26x_receiver.specs.declared.received.Received.TheVariants as receive
 use Rattle.h26x_core.specs.Sequence.{distance_ahead, is_late}
 use Rattle.h26x_receiver.specs.Sequenced.{is_run_kept, after_sequenced_packet}
 use Rattle.h26x_reorder.specs.Rtp.{RtpBody}
-use Rattle.h26x_reorder.specs.ReorderBuffer.{BufferState, due_at, put_packet, push_answer, after_push, without_first_of}
+use Rattle.h26x_reorder.specs.ReorderBuffer.{BufferState, due_at, put_packet, push_answer, after_push, are_beyond, without_first_of}
 use Rattle.h26x_reorder.specs.declared.pushed.Pushed as buffers
 use Rattle.h26x_reorder.specs.declared.pushed.Pushed.TheVariants as buffered
 use Rattle.h26x_assembler.specs.AccessUnit.{AccessUnitValue, Assembly, unit_len, unit_within, whole_if, taken_by, after_rtp, after_taken_rtp, after_unit_skip, behind_missing, after_pass_over, after_ending}
 use Rattle.h26x_access_units.specs.declared.config.AccessUnitConfig.{AccessUnitConfig}
 use Rattle.h26x_access_units.specs.declared.pushed.Pushed.{Pushed}
 use Rattle.h26x_access_units.specs.declared.pushed.Pushed.TheVariants as pushes
+use Rattle.h26x_access_units.specs.declared.pushed.NotPushed.{NotPushed}
+use Rattle.h26x_access_units.specs.declared.way.Way.{Way}
+use Rattle.h26x_access_units.specs.declared.way.Way.TheVariants as ways
 use Rattle.h26x_access_units.specs.Numbers.{bears_nothing}
-use Rattle.h26x_access_units.specs.JitterBuffer.{JitterState, held_bytes, is_full, is_far, jitter_answer, after_jitter, with_held_limit, fresh_jitter}
+use Rattle.h26x_access_units.specs.JitterBuffer.{JitterState, held_bytes, is_full, has_room_for, jitter_answer, after_jitter, with_packet, with_two, with_held_limit, fresh_jitter}
 use Rattle.h26x_access_units.specs.Pushed.{as_pushed}
-use Rattle.h26x_access_units.specs.Reception.{Reception, reception_answer, after_reception, is_behind_stray, pushed_to, anew_of, assembly_after, is_no_unit, after_no_unit, ends_with, is_taken_at_once, IsDueTaken, IsEndedBefore, is_behind_missing, ended_behind_missing, ended_by_content, begun_for, believed_packet, IsPushed, IsDrained, none, bare, more, behind, bare_passed, without_bare, without_bare_of, ended_if_anew, IsDrainedInPart, ended_if_over, has_no_unit, without_given, without_given_of, fresh_reception, IsNext}
+use Rattle.h26x_access_units.specs.Reception.{Reception, is_near_stray, far_answer, ahead_answer, way_of, answer_on, held_with, reception_answer, after_reception, refused_reception, is_behind_stray, pushed_to, anew_of, assembly_after, is_no_unit, after_no_unit, ends_with, is_taken_at_once, IsDueTaken, IsEndedBefore, is_behind_missing, ended_behind_missing, ended_by_content, begun_for, believed_packet, IsPushed, IsDrained, none, bare, more, behind, bare_passed, without_bare, without_bare_of, ended_if_anew, IsDrainedInPart, ended_if_over, has_no_unit, without_given, without_given_of, fresh_reception, IsNext}
 use Rattle.h26x_access_units.specs.ReceivedAccessUnit.{ReceivedAccessUnitValue}
 use Rattle.h26x_access_units.specs.Limits.{stray_len, IsWithinLimits, StaysWithinLimits}
 
@@ -52,6 +55,7 @@ answered_adds now j p (pushes.Late n) = omega arith
 answered_adds now j p pushes.Twice = omega arith
 answered_adds now j p pushes.Stray = omega arith
 answered_adds now j p pushes.Anew = omega arith
+answered_adds now j p pushes.Jumped = omega arith
 answered_adds now j p pushes.Full = omega arith
 
 pub config_stays : (now : ℕ) (j : JitterState) (p : ℕ × RtpBody) (answer : Pushed) → (after_jitter now j p answer).config ≡ j.config
@@ -60,7 +64,14 @@ config_stays now j p (pushes.Late n) = refl
 config_stays now j p pushes.Twice = refl
 config_stays now j p pushes.Stray = refl
 config_stays now j p pushes.Anew = refl
+config_stays now j p pushes.Jumped = refl
 config_stays now j p pushes.Full = refl
+
+not_past : (j : JitterState) (p : ℕ × RtpBody) → is_full j (length p.1.payload) ≡ false → held_bytes j.buffer.held ≤ j.config.held_limit
+not_past j p e = elim (nat_lt j.config.held_limit (held_bytes j.buffer.held)) as (λ t. nat_lt j.config.held_limit (held_bytes j.buffer.held) ≡ t → (t || nat_le 18446744073709551616 (held_bytes j.buffer.held + length p.1.payload)) ≡ false → held_bytes j.buffer.held ≤ j.config.held_limit) [
+  | true ↦ λ t f. absurd (let bad = f in cc)
+  | false ↦ λ t f. grind (arith, nat_tests)
+] refl e
 
 -- a packet waits only where what waits is within the limit
 waits_within : (now : ℕ) (j : JitterState) (p : ℕ × RtpBody) (most : ℕ) → length p.1.payload ≤ most → held_bytes j.buffer.held ≤ max j.config.held_limit most + most →
@@ -69,16 +80,10 @@ waits_within now j p most len within =
     elim (is_full j (length p.1.payload)) as (λ f. is_full j (length p.1.payload) ≡ f → held_bytes (after_jitter now j p (jitter_answer j p)).buffer.held ≤ max j.config.held_limit most + most) [
       | true ↦ λ e. rw e within
       | false ↦ λ e.
-          let limit : held_bytes j.buffer.held ≤ j.config.held_limit = not_past e in
+          let limit : held_bytes j.buffer.held ≤ j.config.held_limit = not_past j p e in
           let adds = answered_adds now j p (jitter_answer j p) in
           omega (arith, limit, adds, len)
     ] refl
-  where
-    not_past : is_full j (length p.1.payload) ≡ false → held_bytes j.buffer.held ≤ j.config.held_limit
-    not_past e = elim (nat_lt j.config.held_limit (held_bytes j.buffer.held)) as (λ t. nat_lt j.config.held_limit (held_bytes j.buffer.held) ≡ t → (t || nat_le 18446744073709551616 (held_bytes j.buffer.held + length p.1.payload)) ≡ false → held_bytes j.buffer.held ≤ j.config.held_limit) [
-      | true ↦ λ t f. absurd (let bad = f in cc)
-      | false ↦ λ t f. grind (arith, nat_tests)
-    ] refl e
 
 -- of a stream that begins anew no more than two packets wait
 anew_adds : (now : ℕ) (config : AccessUnitConfig) (stray : Option (ℕ × RtpBody)) (p : ℕ × RtpBody) → held_bytes (anew_of now config stray p).buffer.held ≤ stray_len stray + length p.1.payload
@@ -110,13 +115,14 @@ answer_within now s p most len is = record {
 
 held_within : (now : ℕ) (s : Reception) (p : ℕ × RtpBody) (most : ℕ) (answer : Pushed) → IsWithinLimits most s →
     held_bytes (after_jitter now s.waiting p answer).buffer.held ≤ max s.waiting.config.held_limit most + most →
-    (answer ≡ pushes.Stray → ⊥) → (answer ≡ pushes.Anew → ⊥) → IsWithinLimits most (after_reception now s p answer)
-held_within now s p most pushes.Held is bytes stray anew = record { waiting = bytes; stray = is.stray; run = is.run; unit = is.unit }
-held_within now s p most (pushes.Late n) is bytes stray anew = record { waiting = bytes; stray = is.stray; run = is.run; unit = is.unit }
-held_within now s p most pushes.Twice is bytes stray anew = record { waiting = bytes; stray = is.stray; run = is.run; unit = is.unit }
-held_within now s p most pushes.Full is bytes stray anew = record { waiting = bytes; stray = is.stray; run = is.run; unit = is.unit }
-held_within now s p most pushes.Stray is bytes stray anew = absurd (stray refl)
-held_within now s p most pushes.Anew is bytes stray anew = absurd (anew refl)
+    (answer ≡ pushes.Stray → ⊥) → (answer ≡ pushes.Anew → ⊥) → (answer ≡ pushes.Jumped → ⊥) → IsWithinLimits most (after_reception now s p answer)
+held_within now s p most pushes.Held is bytes stray anew jumped = record { waiting = bytes; stray = is.stray; run = is.run; unit = is.unit }
+held_within now s p most (pushes.Late n) is bytes stray anew jumped = record { waiting = bytes; stray = is.stray; run = is.run; unit = is.unit }
+held_within now s p most pushes.Twice is bytes stray anew jumped = record { waiting = bytes; stray = is.stray; run = is.run; unit = is.unit }
+held_within now s p most pushes.Full is bytes stray anew jumped = record { waiting = bytes; stray = is.stray; run = is.run; unit = is.unit }
+held_within now s p most pushes.Stray is bytes stray anew jumped = absurd (stray refl)
+held_within now s p most pushes.Anew is bytes stray anew jumped = absurd (anew refl)
+held_within now s p most pushes.Jumped is bytes stray anew jumped = absurd (jumped refl)
 
 not_stray : (j : JitterState) (p : ℕ × RtpBody) → jitter_answer j p ≡ pushes.Stray → ⊥
 not_stray j p = by (is_full j (length p.1.payload)) (push_answer j.buffer p.0)
@@ -136,15 +142,106 @@ not_anew j p = by (is_full j (length p.1.payload)) (push_answer j.buffer p.0)
     by false (buffered.Late n) e = absurd (let bad = e in cc)
     by false buffered.Twice e = absurd (let bad = e in cc)
 
-pub push_within : (most now : ℕ) (s : Reception) (p : ℕ × RtpBody) → length p.1.payload ≤ most → IsWithinLimits most s → IsWithinLimits most (after_reception now s p (reception_answer s p))
-push_within most now s p len is =
-    elim (is_far s.waiting.config.far s.waiting.buffer p.0) as (λ f. is_far s.waiting.config.far s.waiting.buffer p.0 ≡ f → IsWithinLimits most (after_reception now s p (cond f (cond (is_behind_stray s.stray p.0) pushes.Anew pushes.Stray) (jitter_answer s.waiting p)))) [
-      | true ↦ λ e. elim (is_behind_stray s.stray p.0) as (λ b. IsWithinLimits most (after_reception now s p (cond b pushes.Anew pushes.Stray))) [
-        | true ↦ answer_within now s p most len is
-        | false ↦ record { waiting = is.waiting; stray = len; run = is.run; unit = is.unit }
-      ]
-      | false ↦ λ e. held_within now s p most (jitter_answer s.waiting p) is (waits_within now s.waiting p most len is.waiting) (not_stray s.waiting p) (not_anew s.waiting p)
+not_jumped : (j : JitterState) (p : ℕ × RtpBody) → jitter_answer j p ≡ pushes.Jumped → ⊥
+not_jumped j p = by (is_full j (length p.1.payload)) (push_answer j.buffer p.0)
+  where
+    by : (f : Bool) (answer : buffers.Pushed) → cond f pushes.Full (as_pushed answer) ≡ pushes.Jumped → ⊥
+    by true answer e = absurd (let bad = e in cc)
+    by false buffered.Held e = absurd (let bad = e in cc)
+    by false (buffered.Late n) e = absurd (let bad = e in cc)
+    by false buffered.Twice e = absurd (let bad = e in cc)
+
+-- where both wait that came more than a window ahead
+two_add : (now : ℕ) (j : JitterState) (p q : ℕ × RtpBody) → held_bytes (with_two now j p q).buffer.held ≤ held_bytes j.buffer.held + length p.1.payload + length q.1.payload
+two_add now j p q =
+    let one = push_adds j.buffer p in
+    let two = push_adds (with_packet now j p).buffer q in
+    omega (arith, one, two)
+
+none_held : (held : List (ℕ × RtpBody)) → (length held == 0) ≡ true → held_bytes held ≡ 0
+none_held [] e = refl
+none_held (p ∷ held) e = absurd (let bad : length held + 1 ≡ 0 = grind (arith, nat_tests) in omega (arith, bad))
+
+room_is : (j : JitterState) (stray : ℕ × RtpBody) (most : ℕ) → length stray.1.payload ≤ most → has_room_for j stray ≡ true → held_bytes j.buffer.held + length stray.1.payload ≤ max j.config.held_limit most
+room_is j stray most len room =
+    elim (length j.buffer.held == 0) as (λ n. (length j.buffer.held == 0) ≡ n → (n || nat_le (held_bytes j.buffer.held + length stray.1.payload) j.config.held_limit) ≡ true → held_bytes j.buffer.held + length stray.1.payload ≤ max j.config.held_limit most) [
+      | true ↦ λ e r. let none = none_held j.buffer.held e in omega (arith, none, len)
+      | false ↦ λ e r. let fits : held_bytes j.buffer.held + length stray.1.payload ≤ j.config.held_limit = grind (arith, nat_tests) in omega (arith, fits)
+    ] refl room
+
+joined_within : (now : ℕ) (j : JitterState) (stray : Option (ℕ × RtpBody)) (p : ℕ × RtpBody) (most : ℕ) → length p.1.payload ≤ most → stray_len stray ≤ most → held_bytes j.buffer.held ≤ j.config.held_limit →
+    held_bytes (held_with now j stray p).buffer.held ≤ max j.config.held_limit most + most
+joined_within now j None p most len alone limit = let adds = push_adds j.buffer p in omega (arith, adds, len, limit)
+joined_within now j (Some stray) p most len alone limit =
+    let adds = push_adds j.buffer p in
+    let first = two_add now j stray p in
+    let second = two_add now j p stray in
+    elim (has_room_for j stray) as (λ r. has_room_for j stray ≡ r →
+    held_bytes (cond (r && are_beyond j.buffer stray.0 p.0) (with_two now j stray p) (cond (r && are_beyond j.buffer p.0 stray.0) (with_two now j p stray) (with_packet now j p))).buffer.held ≤ max j.config.held_limit most + most) [
+      | true ↦ λ e.
+          let room = room_is j stray most alone e in
+          elim (are_beyond j.buffer stray.0 p.0) as (λ a. held_bytes (cond a (with_two now j stray p) (cond (are_beyond j.buffer p.0 stray.0) (with_two now j p stray) (with_packet now j p))).buffer.held ≤ max j.config.held_limit most + most) [
+            | true ↦ omega (arith, room, first, len)
+            | false ↦ elim (are_beyond j.buffer p.0 stray.0) as (λ a. held_bytes (cond a (with_two now j p stray) (with_packet now j p)).buffer.held ≤ max j.config.held_limit most + most) [
+              | true ↦ omega (arith, room, second, len)
+              | false ↦ omega (arith, adds, len, limit)
+            ]
+          ]
+      | false ↦ λ e. omega (arith, adds, len, limit)
     ] refl
+
+pub joined_config : (now : ℕ) (j : JitterState) (stray : Option (ℕ × RtpBody)) (p : ℕ × RtpBody) → (held_with now j stray p).config ≡ j.config
+joined_config now j None p = refl
+joined_config now j (Some stray) p =
+    elim (has_room_for j stray && are_beyond j.buffer stray.0 p.0) as (λ a. (cond a (with_two now j stray p) (cond (has_room_for j stray && are_beyond j.buffer p.0 stray.0) (with_two now j p stray) (with_packet now j p))).config ≡ j.config) [
+      | true ↦ refl
+      | false ↦ elim (has_room_for j stray && are_beyond j.buffer p.0 stray.0) as (λ a. (cond a (with_two now j p stray) (with_packet now j p)).config ≡ j.config) [ true ↦ refl | false ↦ refl ]
+    ]
+
+jumped_within : (now : ℕ) (s : Reception) (p : ℕ × RtpBody) (most : ℕ) → length p.1.payload ≤ most → IsWithinLimits most s → is_full s.waiting (length p.1.payload) ≡ false →
+    IsWithinLimits most (after_reception now s p pushes.Jumped)
+jumped_within now s p most len is room = record {
+  waiting =
+      let within = joined_within now s.waiting s.stray p most len is.stray (not_past s.waiting p room) in
+      let same = ap (λ (c : AccessUnitConfig). c.held_limit) (joined_config now s.waiting s.stray p) in
+      omega (arith, within, same);
+  stray = omega arith;
+  run = is.run;
+  unit = is.unit;
+}
+
+-- so of each answer
+alone_within : (now : ℕ) (s : Reception) (p : ℕ × RtpBody) (most : ℕ) → length p.1.payload ≤ most → IsWithinLimits most s → IsWithinLimits most (after_reception now s p pushes.Stray)
+alone_within now s p most len is = record { waiting = is.waiting; stray = len; run = is.run; unit = is.unit }
+
+stays_within : (now : ℕ) (s : Reception) (p : ℕ × RtpBody) (most : ℕ) → IsWithinLimits most s → IsWithinLimits most (after_reception now s p pushes.Twice)
+stays_within now s p most is = record { waiting = is.waiting; stray = is.stray; run = is.run; unit = is.unit }
+
+ahead_within : (now : ℕ) (s : Reception) (p : ℕ × RtpBody) (most : ℕ) → length p.1.payload ≤ most → IsWithinLimits most s → IsWithinLimits most (after_reception now s p (ahead_answer s p))
+ahead_within now s p most len is =
+    elim (is_near_stray s.waiting.buffer.window s.stray p.0) as (λ n. IsWithinLimits most (after_reception now s p (cond n (cond (is_full s.waiting (length p.1.payload)) pushes.Full pushes.Jumped) pushes.Stray))) [
+      | true ↦ elim (is_full s.waiting (length p.1.payload)) as (λ f. is_full s.waiting (length p.1.payload) ≡ f → IsWithinLimits most (after_reception now s p (cond f pushes.Full pushes.Jumped))) [
+        | true ↦ λ e. record { waiting = is.waiting; stray = is.stray; run = is.run; unit = is.unit }
+        | false ↦ λ e. jumped_within now s p most len is e
+      ] refl
+      | false ↦ alone_within now s p most len is
+    ]
+
+far_answer_within : (now : ℕ) (s : Reception) (p : ℕ × RtpBody) (most : ℕ) → length p.1.payload ≤ most → IsWithinLimits most s → IsWithinLimits most (after_reception now s p (far_answer s p))
+far_answer_within now s p most len is =
+    elim (is_behind_stray s.stray p.0) as (λ b. IsWithinLimits most (after_reception now s p (cond b pushes.Anew pushes.Stray))) [
+      | true ↦ answer_within now s p most len is
+      | false ↦ alone_within now s p most len is
+    ]
+
+pub push_within : (most now : ℕ) (s : Reception) (p : ℕ × RtpBody) → length p.1.payload ≤ most → IsWithinLimits most s → IsWithinLimits most (after_reception now s p (reception_answer s p))
+push_within most now s p len is = by (way_of s p.0)
+  where
+    by : (way : Way) → IsWithinLimits most (after_reception now s p (answer_on way s p))
+    by ways.Repeat = stays_within now s p most is
+    by ways.Far = far_answer_within now s p most len is
+    by ways.Ahead = ahead_within now s p most len is
+    by ways.Window = held_within now s p most (jitter_answer s.waiting p) is (waits_within now s.waiting p most len is.waiting) (not_stray s.waiting p) (not_anew s.waiting p) (not_jumped s.waiting p)
 
 -- a run is given up past its limit, and the text of an access unit past its own
 run_is_within : (most : ℕ) (run : Option (List ℕ)) → run_len (run_within most run) ≤ most
@@ -290,6 +387,12 @@ pub far_within : {E : Type 0} (now : ℕ) (s new : Reception) (p : ℕ × RtpBod
     OnErr result (new ≡ s) → StaysWithinLimits (length p.1.payload) s new
 far_within now s new p (Ok answer) is stands kept = λ most small at. subst (IsWithinLimits most) (sym (stands ∙ ap (after_reception now s p) is)) (push_within most now s p small at)
 far_within now s new p (Err error) is stands kept = λ most small at. subst (IsWithinLimits most) (sym kept) at
+
+-- so of one that is given by value, which comes back where it is refused
+pub aside_within : (now : ℕ) (s new : Reception) (p : ℕ × RtpBody) (result : Result Pushed NotPushed) → IfOk result (λ answer. answer ≡ reception_answer s p) → IfOk result (λ answer. new ≡ after_reception now s p answer) →
+    IfErr result (λ it. new ≡ refused_reception s it.reason) → StaysWithinLimits (length p.1.payload) s new
+aside_within now s new p (Ok answer) is stands kept = λ most small at. subst (IsWithinLimits most) (sym (stands ∙ ap (after_reception now s p) is)) (push_within most now s p small at)
+aside_within now s new p (Err it) is stands kept = λ most small at. subst (IsWithinLimits most) (sym kept) (record { waiting = at.waiting; stray = at.stray; run = at.run; unit = at.unit })
 
 pub at_once_within : {E : Type 0} (now : ℕ) (s new : Reception) (p : ℕ × RtpBody) (result : Result Pushed E) → pushes.Held ≡ reception_answer s p →
     OnOk result ((at : ℕ) → IsDueTaken at (after_reception at s p pushes.Held) new) → OnErr result (new ≡ s) → StaysWithinLimits (length p.1.payload) s new

@@ -1,6 +1,7 @@
 -- Packets that are due, taken one after the other, or at once.
 use Rattle.std.proofs.Common.{◌≡◌, ◌∙◌, ap, sym, subst, ℕ, ◌+◌, ◌*◌, ◌<◌, Bool, true, false, cond, List, [], ◌∷◌, ◌++◌, length, Option, Some, None, inl, inr, map, slice_index_or, refl, arith}
 use Rattle.std.specs.Prelude.{remove}
+use Rattle.std.specs.Option.{unwrap_or}
 use Rattle.h26x_assembler.specs.declared.access_unit.AccessUnit.{AccessUnit}
 use Rattle.std.specs.Prelude.{◌==◌, ◌||◌, ◌&&◌, if◌then◌else◌, ◌⊎◌, nat_lt, nat_le, slice_get}
 use Rattle.h26x_core.specs.Sequence.{distance_ahead, distance_behind, is_late, is_expected, missing_count}
@@ -20,14 +21,18 @@ use Rattle.h26x_access_units.specs.declared.framing.Framing.{Framing}
 use Rattle.h26x_access_units.specs.Framing.{fresh_framing, ends_by_content}
 use Rattle.h26x_access_units.specs.declared.numbers.NumbersSoFar.{NumbersSoFar}
 use Rattle.h26x_reorder.specs.declared.pushed.Pushed.TheVariants as buffered
+use Rattle.h26x_access_units.specs.declared.passed.PassedNumbers.{PassedNumbers}
+use Rattle.h26x_access_units.specs.Passed.{is_noted, is_passed}
+use Rattle.h26x_access_units.specs.declared.way.Way.{Way}
+use Rattle.h26x_access_units.specs.declared.way.Way.TheVariants as ways
 use Rattle.h26x_access_units.specs.declared.pushed.Pushed.{Pushed}
 use Rattle.h26x_access_units.specs.declared.pushed.Pushed.TheVariants as pushes
 use Rattle.h26x_access_units.specs.Counts.{counted_due, counted_skip, counted_answer, counted_dropped, counted_framing, counted_unit}
 use Rattle.h26x_access_units.specs.Pushed.{as_pushed}
 use Rattle.h26x_access_units.specs.Numbers.{bears_nothing, numbers_after, numbers_closed, numbers_carrying, after_last, after_missing, first_ended, without_first_ended}
-use Rattle.h26x_access_units.specs.JitterBuffer.{JitterState, is_far, is_full, jitter_answer, is_pressed, due_packet, with_packet, without_due}
+use Rattle.h26x_access_units.specs.JitterBuffer.{JitterState, reach, is_far, is_ahead, is_full, jitter_answer, is_pressed, awaited_number, awaited, due_packet, with_packet, without_due}
 use Rattle.h26x_access_units.specs.ReceivedAccessUnit.{ReceivedAccessUnitValue, received_unit, decoder_with, whole_with}
-use Rattle.h26x_access_units.specs.Reception.{Reception, reception, assembly_after, marker_forgotten, begun_for, expected_for, is_behind_missing, is_in_reach, shown_of, ends_before, is_one_taken, begins_still, counts_answered, after_due, is_behind_stray, reception_answer, after_reception, has_no_unit, has_bare, bare_passed, first_passed, first_passed_of, without_bare, without_bare_of, is_taken_at_once, is_idle, after_finish, ended_if_anew, ended_if_over, unit_given_of, unit_given, without_given_of, without_given, IsDueTaken, IsPushed, IsDrained, none, bare, more, behind, IsEndedBefore, ended_behind_missing, ended_by_content, ended_before, IsDueTakenOrNone, FollowsWhereDue, IsEndedOrFollows, IsStepOrNone, IsStep, ended_alone, taken_alone, ended_and_taken, IsStepInPart, IsNext}
+use Rattle.h26x_access_units.specs.Reception.{Reception, reception, assembly_after, marker_forgotten, begun_for, expected_for, is_behind_missing, is_in_reach, shown_of, ends_before, is_one_taken, begins_still, counts_answered, after_due, is_repeat, is_too_far, way_of, answer_on, reception_answer, after_reception, has_no_unit, has_bare, bare_passed, first_passed, first_passed_of, without_bare, without_bare_of, is_taken_at_once, is_idle, after_finish, ended_if_anew, ended_if_over, unit_given_of, unit_given, without_given_of, without_given, IsDueTaken, IsPushed, IsDrained, none, bare, more, behind, IsEndedBefore, ended_behind_missing, ended_by_content, ended_before, IsDueTakenOrNone, FollowsWhereDue, IsEndedOrFollows, IsStepOrNone, IsStep, ended_alone, taken_alone, ended_and_taken, IsStepInPart, IsNext}
 
 -- where nothing is held nothing is ready
 none_ready : (window : ℕ) (due : Option ℕ) → first_ready {A = RtpBody} window due [] ≡ None
@@ -76,18 +81,19 @@ counted_as expected c p answer x y = by (bears_nothing p.1.payload) answer
     by false (TooLong n) same = ap (counted_answer c (TooLong n)) (same refl refl)
 
 -- what stands after a packet that was due, by its parts
-pub due_stands : (s : Reception) (p : ℕ × RtpBody) (a : Result Received PacketError) (waiting : JitterState) (assembler : Assembly) (framing : Framing) (numbers : NumbersSoFar) (counts : Counts) (run unit : ℕ) →
-    waiting ≡ without_due s.waiting → assembler ≡ (after_due s p a).assembler → framing ≡ (after_due s p a).framing → numbers ≡ (after_due s p a).numbers → counts ≡ (after_due s p a).counts →
-    run ≡ s.run_limit → unit ≡ s.unit_limit → reception waiting s.stray s.is_anew assembler framing numbers s.decoder counts run unit ≡ after_due s p a
-due_stands s p a waiting assembler framing numbers counts run unit w f m n c r u =
+pub due_stands : (s : Reception) (p : ℕ × RtpBody) (a : Result Received PacketError) (waiting : JitterState) (passed : PassedNumbers) (assembler : Assembly) (framing : Framing) (numbers : NumbersSoFar) (counts : Counts) (run unit : ℕ) →
+    waiting ≡ without_due s.waiting → passed ≡ (after_due s p a).passed → assembler ≡ (after_due s p a).assembler → framing ≡ (after_due s p a).framing → numbers ≡ (after_due s p a).numbers → counts ≡ (after_due s p a).counts →
+    run ≡ s.run_limit → unit ≡ s.unit_limit → reception waiting s.stray s.is_anew passed assembler framing numbers s.decoder counts run unit ≡ after_due s p a
+due_stands s p a waiting passed assembler framing numbers counts run unit w d f m n c r u =
     let after = after_due s p a in
-    ap (λ (x : JitterState). reception x s.stray s.is_anew assembler framing numbers s.decoder counts run unit) w
-    ∙ ap (λ (x : Assembly). reception after.waiting s.stray s.is_anew x framing numbers s.decoder counts run unit) f
-    ∙ ap (λ (x : Framing). reception after.waiting s.stray s.is_anew after.assembler x numbers s.decoder counts run unit) m
-    ∙ ap (λ (x : NumbersSoFar). reception after.waiting s.stray s.is_anew after.assembler after.framing x s.decoder counts run unit) n
-    ∙ ap (λ (x : Counts). reception after.waiting s.stray s.is_anew after.assembler after.framing after.numbers s.decoder x run unit) c
-    ∙ ap (λ (x : ℕ). reception after.waiting s.stray s.is_anew after.assembler after.framing after.numbers s.decoder after.counts x unit) r
-    ∙ ap (λ (x : ℕ). reception after.waiting s.stray s.is_anew after.assembler after.framing after.numbers s.decoder after.counts s.run_limit x) u
+    ap (λ (x : JitterState). reception x s.stray s.is_anew passed assembler framing numbers s.decoder counts run unit) w
+    ∙ ap (λ (x : PassedNumbers). reception after.waiting s.stray s.is_anew x assembler framing numbers s.decoder counts run unit) d
+    ∙ ap (λ (x : Assembly). reception after.waiting s.stray s.is_anew after.passed x framing numbers s.decoder counts run unit) f
+    ∙ ap (λ (x : Framing). reception after.waiting s.stray s.is_anew after.passed after.assembler x numbers s.decoder counts run unit) m
+    ∙ ap (λ (x : NumbersSoFar). reception after.waiting s.stray s.is_anew after.passed after.assembler after.framing x s.decoder counts run unit) n
+    ∙ ap (λ (x : Counts). reception after.waiting s.stray s.is_anew after.passed after.assembler after.framing after.numbers s.decoder x run unit) c
+    ∙ ap (λ (x : ℕ). reception after.waiting s.stray s.is_anew after.passed after.assembler after.framing after.numbers s.decoder after.counts x unit) r
+    ∙ ap (λ (x : ℕ). reception after.waiting s.stray s.is_anew after.passed after.assembler after.framing after.numbers s.decoder after.counts s.run_limit x) u
 
 -- a packet that needn't wait is due where it waits, whatever the tick
 pub straight_is_due : (now at : ℕ) (j : JitterState) (p : ℕ × RtpBody) → p.0 < 65536 → goes_straight j.buffer p.0 ≡ true → due_packet now (with_packet at j p) ≡ Some p
@@ -98,6 +104,12 @@ straight_is_due now at j p small is = by (is_pressed now (with_packet at j p)) (
     by false b alone =
         let same : (p.0 == p.0) ≡ true = grind (arith, nat_tests) in
         ap next_packet alone ∙ rw same refl
+
+-- the number that is awaited then
+pub awaited_straight : (now : ℕ) (j : JitterState) (p : ℕ × RtpBody) → p.0 < 65536 → goes_straight j.buffer p.0 ≡ true → unwrap_or (awaited (with_packet now j p)) 0 ≡ p.0
+awaited_straight now j p small is =
+    ap (λ (b : BufferState RtpBody). unwrap_or (awaited_number j.has_begun b.due b.held) 0) (held_alone j.buffer p.0 p.1 small is)
+    ∙ elim j.has_begun as (λ h. unwrap_or (awaited_number h (Some p.0) (p ∷ [])) 0 ≡ p.0) [ true ↦ refl | false ↦ refl ]
 
 -- where none has ended
 none_of_units : (units : List AccessUnitValue) → has_no_unit units ≡ true → units ≡ []
@@ -133,13 +145,22 @@ answer_at s p b = reception_answer (record s { waiting = record s.waiting { buff
 straight_answer : (s : Reception) (p : ℕ × RtpBody) (window : ℕ) → p.0 < 65536 → length p.1.payload < 18446744073709551616 → answer_at s p (buffer_state window (Some p.0) []) ≡ pushes.Held
 straight_answer s p window small len =
     let same : nat_lt (distance_ahead p.0 p.0) (distance_ahead p.0 p.0) ≡ false = grind (arith, nat_tests) in
-    let near : is_far s.waiting.config.far (buffer_state window (Some p.0) []) p.0 ≡ false = not_outside (s.waiting.config.far == 0) _ _ same in
+    let near : is_far s.waiting.config.far s.waiting.config.far_behind (buffer_state window (Some p.0) []) p.0 ≡ false = not_outside (s.waiting.config.far == 0) _ _ same in
     let few : nat_lt s.waiting.config.held_limit 0 ≡ false = grind (arith, nat_tests) in
     let counted : nat_le 18446744073709551616 (0 + length p.1.payload) ≡ false = grind (arith, nat_tests) in
     let full : is_full (record s.waiting { buffer = buffer_state window (Some p.0) [] }) (length p.1.payload) ≡ false = neither _ _ few counted in
     let early : is_late (Some p.0) p.0 ≡ false = grind (arith, nat_tests) in
     let b = buffer_state window (Some p.0) [] in
-    ap (λ (f : Bool). cond f (cond (is_behind_stray s.stray p.0) pushes.Anew pushes.Stray) (jitter_answer (record s.waiting { buffer = b }) p)) near
+    let zero : nat_lt 0 (distance_ahead p.0 p.0) ≡ false = grind (arith, nat_tests) in
+    let at = record s { waiting = record s.waiting { buffer = b } } in
+    let repeat : is_repeat at p.0 ≡ false = ap (λ (z : Bool). (z && nat_le (distance_ahead p.0 p.0) s.passed.count) && is_noted s.passed.taken p.0) zero in
+    let far : is_too_far at p.0 ≡ false = ap (λ (f : Bool). f && not (is_passed s.passed (Some p.0) p.0)) near in
+    let ahead : is_ahead b p.0 ≡ false = ap (λ (z : Bool). (z && nat_lt (distance_ahead p.0 p.0) 32768) && nat_lt (reach window) (distance_ahead p.0 p.0)) same in
+    let way : way_of at p.0 ≡ ways.Window =
+    ap (λ (f : Bool). cond f ways.Repeat (cond (is_too_far at p.0) ways.Far (cond (is_ahead b p.0) ways.Ahead ways.Window))) repeat
+    ∙ ap (λ (f : Bool). cond f ways.Far (cond (is_ahead b p.0) ways.Ahead ways.Window)) far
+    ∙ ap (λ (f : Bool). cond f ways.Ahead ways.Window) ahead in
+    ap (λ (w : Way). answer_on w at p) way
     ∙ ap (λ (f : Bool). cond f pushes.Full (as_pushed (push_answer b p.0))) full
     ∙ ap (λ (l : Bool). as_pushed (cond l (buffered.Late (distance_behind (Some p.0) p.0)) buffered.Held)) early
 
@@ -327,28 +348,28 @@ follows_ended now s t it = subst (FollowsWhereDue now) (sym it.stands)
 pub ended_stands : (s : Reception) (p : ℕ × RtpBody) (assembler : Assembly) (numbers : NumbersSoFar) (counts : Counts) (run unit : ℕ) → is_behind_missing s.assembler p.0 ≡ true →
     assembler ≡ after_finishing s.assembler → numbers ≡ after_missing s.numbers (missing_count s.assembler.expected p.0) →
     counts ≡ counted_dropped s.counts (missing_count s.assembler.expected p.0) →
-    run ≡ s.run_limit → unit ≡ s.unit_limit → reception s.waiting s.stray s.is_anew assembler s.framing numbers s.decoder counts run unit ≡ ended_before s p
+    run ≡ s.run_limit → unit ≡ s.unit_limit → reception s.waiting s.stray s.is_anew s.passed assembler s.framing numbers s.decoder counts run unit ≡ ended_before s p
 ended_stands s p assembler numbers counts run unit is f n c r u =
     let after = ended_behind_missing s p in
     let same : ended_before s p ≡ after = rw is refl in
-    ap (λ (x : Assembly). reception s.waiting s.stray s.is_anew x s.framing numbers s.decoder counts run unit) f
-    ∙ ap (λ (x : NumbersSoFar). reception s.waiting s.stray s.is_anew after.assembler s.framing x s.decoder counts run unit) n
-    ∙ ap (λ (x : Counts). reception s.waiting s.stray s.is_anew after.assembler s.framing after.numbers s.decoder x run unit) c
-    ∙ ap (λ (x : ℕ). reception s.waiting s.stray s.is_anew after.assembler s.framing after.numbers s.decoder after.counts x unit) r
-    ∙ ap (λ (x : ℕ). reception s.waiting s.stray s.is_anew after.assembler s.framing after.numbers s.decoder after.counts s.run_limit x) u
+    ap (λ (x : Assembly). reception s.waiting s.stray s.is_anew s.passed x s.framing numbers s.decoder counts run unit) f
+    ∙ ap (λ (x : NumbersSoFar). reception s.waiting s.stray s.is_anew s.passed after.assembler s.framing x s.decoder counts run unit) n
+    ∙ ap (λ (x : Counts). reception s.waiting s.stray s.is_anew s.passed after.assembler s.framing after.numbers s.decoder x run unit) c
+    ∙ ap (λ (x : ℕ). reception s.waiting s.stray s.is_anew s.passed after.assembler s.framing after.numbers s.decoder after.counts x unit) r
+    ∙ ap (λ (x : ℕ). reception s.waiting s.stray s.is_anew s.passed after.assembler s.framing after.numbers s.decoder after.counts s.run_limit x) u
     ∙ sym same
 
 -- and where it ended by its units
 pub content_stands : (s : Reception) (p : ℕ × RtpBody) (assembler : Assembly) (numbers : NumbersSoFar) (run unit : ℕ) → is_behind_missing s.assembler p.0 ≡ false →
     assembler ≡ after_ending s.assembler → numbers ≡ numbers_closed s.numbers →
-    run ≡ s.run_limit → unit ≡ s.unit_limit → reception s.waiting s.stray s.is_anew assembler s.framing numbers s.decoder s.counts run unit ≡ ended_before s p
+    run ≡ s.run_limit → unit ≡ s.unit_limit → reception s.waiting s.stray s.is_anew s.passed assembler s.framing numbers s.decoder s.counts run unit ≡ ended_before s p
 content_stands s p assembler numbers run unit is f n r u =
     let after = ended_by_content s in
     let same : ended_before s p ≡ after = rw is refl in
-    ap (λ (x : Assembly). reception s.waiting s.stray s.is_anew x s.framing numbers s.decoder s.counts run unit) f
-    ∙ ap (λ (x : NumbersSoFar). reception s.waiting s.stray s.is_anew after.assembler s.framing x s.decoder s.counts run unit) n
-    ∙ ap (λ (x : ℕ). reception s.waiting s.stray s.is_anew after.assembler s.framing after.numbers s.decoder s.counts x unit) r
-    ∙ ap (λ (x : ℕ). reception s.waiting s.stray s.is_anew after.assembler s.framing after.numbers s.decoder s.counts s.run_limit x) u
+    ap (λ (x : Assembly). reception s.waiting s.stray s.is_anew s.passed x s.framing numbers s.decoder s.counts run unit) f
+    ∙ ap (λ (x : NumbersSoFar). reception s.waiting s.stray s.is_anew s.passed after.assembler s.framing x s.decoder s.counts run unit) n
+    ∙ ap (λ (x : ℕ). reception s.waiting s.stray s.is_anew s.passed after.assembler s.framing after.numbers s.decoder s.counts x unit) r
+    ∙ ap (λ (x : ℕ). reception s.waiting s.stray s.is_anew s.passed after.assembler s.framing after.numbers s.decoder s.counts s.run_limit x) u
     ∙ sym same
 
 -- an access unit that ends before a packet leaves what waits

@@ -82,6 +82,38 @@ came b n from since now old new p small is order kept first stands from_is items
     (subst (λ (f : ℕ). Came b.due old now p.0 n f (old ++ arrival_of p.0 now ∷ [])) (sym from_is)
     (record { order = it.order; kept = it.kept; first = it.first; waits = it.waits }))
 
+-- the number that is due once a packet came that waits
+due_then : (b : BufferState RtpBody) (p : ℕ × RtpBody) → push_answer b p.0 ≡ pushes.Held → (after_push b p).due ≡ Some (due_at b.window b.due p.0)
+due_then b p is = let new = held_is b p.0 is in rw new.0 refl
+
+due_stays : (b : BufferState RtpBody) (due : ℕ) (p : ℕ × RtpBody) → b.due ≡ Some due → push_answer b p.0 ≡ pushes.Held → (after_push b p).due ≡ b.due
+due_stays b due p at is = due_then b p is ∙ ap (λ (d : Option ℕ). Some (due_at b.window d p.0)) at ∙ sym at
+
+since_stays : (from : ℕ) (due : Option ℕ) (arrivals : List Arrival) (a : Arrival) → from_at from due (arrivals ++ a ∷ []) ≡ from
+since_stays from due [] a = refl
+since_stays from due (b ∷ arrivals) a = refl
+
+-- so of two packets that came one after the other
+pub record BothCame (due : Option ℕ) (old : List Arrival) (now : ℕ) (p q : ℕ × RtpBody) (b : BufferState RtpBody) (from : ℕ) (new : List Arrival) : Type 0 where
+  pub order : IsHeldInOrder b.due b.held
+  pub kept : AreArrivals from b.due b.held new
+  pub first : is_first_passed b.due new ≡ false
+  pub waits : not_passed b.due new ≡ (not_passed due old ++ arrival_of p.0 now ∷ []) ++ arrival_of q.0 now ∷ []
+
+pub both_came : (b n : BufferState RtpBody) (from since now : ℕ) (old one new : List Arrival) (p q : ℕ × RtpBody) → p.0 < 65536 → q.0 < 65536 → push_answer b p.0 ≡ pushes.Held → push_answer (after_push b p) q.0 ≡ pushes.Held →
+    IsHeldInOrder b.due b.held → AreArrivals from b.due b.held old → is_first_passed b.due old ≡ false →
+    n ≡ after_push (after_push b p) q → since ≡ from_at from n.due old → one ≡ old ++ arrival_of p.0 now ∷ [] → new ≡ one ++ arrival_of q.0 now ∷ [] → BothCame b.due old now p q n since new
+both_came b n from since now old one new p q p_small q_small p_held q_held order kept first stands from_is one_is items =
+    let m = after_push b p in
+    let at = due_then b p p_held in
+    let due : n.due ≡ m.due = ap (λ (x : BufferState RtpBody). x.due) stands ∙ due_stays m (due_at b.window b.due p.0) q at q_held in
+    let then = from_at from m.due old in
+    let f = came b m from then now old one p p_small p_held order kept first refl refl one_is in
+    let same : since ≡ then = from_is ∙ ap (λ (d : Option ℕ). from_at from d old) due in
+    let later : since ≡ from_at then n.due one = same ∙ sym (ap (from_at then n.due) one_is ∙ since_stays then n.due old (arrival_of p.0 now)) in
+    let s = came m n then since now one new q q_small q_held f.order f.kept f.first stands later items in
+    record { order = s.order; kept = s.kept; first = s.first; waits = s.waits ∙ ap (λ (l : List Arrival). l ++ arrival_of q.0 now ∷ []) f.waits }
+
 -- where the first of packets went the stream has begun
 pub begun_first : (held : List (ℕ × RtpBody)) (has_begun : Bool) (p : ℕ × RtpBody) → slice_get held 0 ≡ Some p → begun_with held has_begun ≡ true
 begun_first [] has_begun p is = absurd (let bad = is in cc)

@@ -1,6 +1,6 @@
 -- What the NAL units of an access unit tell of it, from the first up to its first slice (the video
 -- standards' sections on NAL units, slice headers and the order of NAL units).
-use Rattle.std.specs.Prelude.{ℕ, zero, suc, ◌+◌, ◌==◌, nat_lt, nat_le, Bool, true, false, not, ◌&&◌, ◌||◌, if◌then◌else◌, List, length, get_or, drop, max, Option, Some, None, is_some, ◌*◌}
+use Rattle.std.specs.Prelude.{ℕ, zero, suc, ◌+◌, ◌==◌, nat_lt, nat_le, Bool, true, false, not, ◌&&◌, ◌||◌, if◌then◌else◌, List, [], ◌∷◌, length, get_or, drop, max, Option, Some, None, is_some, ◌*◌}
 use Rattle.std.specs.Option.{option_map}
 use Rattle.h26x_core.specs.Word.{field, is_set}
 use Rattle.h26x_core.specs.declared.extra.CodecExtra.{CodecExtra}
@@ -11,6 +11,8 @@ use Rattle.h26x_access_units.specs.declared.content.Slice.{Slice}
 use Rattle.h26x_access_units.specs.declared.content.UnitKind.{UnitKind}
 use Rattle.h26x_access_units.specs.declared.content.UnitKind.TheVariants as kinds
 use Rattle.h26x_access_units.specs.declared.content.Content.{Content}
+use Rattle.h26x_access_units.specs.declared.frame_number.Numbering.TheVariants as numberings
+use Rattle.h26x_access_units.specs.FrameNumber.{joined_numbering, sps_numbering}
 
 -- no parameter set
 abbrev pub no_sets : ParameterSets
@@ -122,6 +124,8 @@ no_content = record {
   highest_layer = 0;
   picture_header = None;
   slice = None;
+  numbering = numberings.NotTold;
+  head = None;
 }
 
 -- the first of kinds
@@ -147,9 +151,30 @@ telling c (kinds.PictureHeader is_unreferenced) =
 telling c (kinds.Slice it) = record c { slice = Some (slice_behind c.picture_header it) }
 telling c kind = c
 
--- with a unit more
+-- with the kind of a unit more
 abbrev pub with_kind : Content → UnitKind → Content
 with_kind c kind = telling (record c { first = first_kind c.first kind }) kind
+
+-- the eight bytes behind the header of an H.264 slice, 0 behind the end
+abbrev pub slice_head : List ℕ → List ℕ
+slice_head unit = get_or unit 1 0 ∷ get_or unit 2 0 ∷ get_or unit 3 0 ∷ get_or unit 4 0
+    ∷ get_or unit 5 0 ∷ get_or unit 6 0 ∷ get_or unit 7 0 ∷ get_or unit 8 0 ∷ []
+
+-- what an H.264 unit of a kind tells of frame numbers
+abbrev pub telling_frames : UnitKind → List ℕ → Content → Content
+telling_frames (kinds.Sps highest) unit c =
+    record c { numbering = joined_numbering c.numbering (sps_numbering unit) }
+telling_frames (kinds.Slice it) unit c = record c { head = Some (slice_head unit) }
+telling_frames kind unit c = c
+
+-- what a unit of a codec tells of them: H.265 and H.266 have no frame numbers
+abbrev pub with_frames : CodecExtra → List ℕ → Content → Content
+with_frames (extras.H264 told) unit c = telling_frames (h264_kind unit) unit c
+with_frames extra unit c = c
+
+-- with a unit more
+abbrev pub content_with_unit : CodecExtra → Content → List ℕ → Content
+content_with_unit extra c unit = with_frames extra unit (with_kind c (content_kind extra unit))
 
 -- a length of four bytes, the highest first
 abbrev pub length_at : List ℕ → ℕ
@@ -169,9 +194,8 @@ abbrev pub content_with : CodecExtra → (Content → List ℕ → Content) → 
     Option (List ℕ × List ℕ) → Content
 content_with extra behind c None = c
 content_with extra behind c (Some it) =
-    if is_some (with_kind c (content_kind extra it.0)).slice
-    then with_kind c (content_kind extra it.0)
-    else behind (with_kind c (content_kind extra it.0)) it.1
+    if is_some (content_with_unit extra c it.0).slice then content_with_unit extra c it.0
+    else behind (content_with_unit extra c it.0) it.1
 
 -- what is told up to the first slice by as many units of a text at most, each by its kind
 abbrev pub content_from : Bool → CodecExtra → ℕ → Content → List ℕ → Content

@@ -10,7 +10,10 @@ use Rattle.h26x_access_units.specs.declared.numbers.AccessUnitNumbers.{AccessUni
 use Rattle.h26x_assembler.specs.AccessUnit.{AccessUnitValue}
 use Rattle.h26x_access_units.specs.ReceivedAccessUnit.{ReceivedAccessUnitValue, unit_content}
 use Rattle.h26x_access_units.specs.Reception.{Reception}
-use Rattle.h26x_access_units.specs.Decoder.{fresh_decoder, is_first_key, is_disposable, decoder_after, shows}
+use Rattle.h26x_access_units.specs.declared.frame_number.Numbering.{Numbering}
+use Rattle.h26x_access_units.specs.declared.frame_number.Numbering.TheVariants as numberings
+use Rattle.h26x_access_units.specs.FrameNumber.{joined_numbering, tells_none_lost}
+use Rattle.h26x_access_units.specs.Decoder.{fresh_decoder, is_first_key, is_first_other, is_disposable, head_after, long_key_after, decoder_after, shows}
 
 -- an access unit as a receiver gives it out: whether nothing is missing in it from its first packet
 -- that came on, what is told of its codec, its numbers, and what its units tell
@@ -54,6 +57,21 @@ known_layer (u ∷ before) =
     if u.content.highest_layer == 0 then (if u.numbers.follows then known_layer before else 0)
     else u.content.highest_layer
 
+-- what all sequence parameter sets of H.264 tell of frame numbers that came
+abbrev pub known_numbering : List GivenUnit → Numbering
+known_numbering [] = numberings.NotTold
+known_numbering (u ∷ before) = joined_numbering (known_numbering before) u.content.numbering
+
+-- the bytes behind the header of the first slice of the last reference picture, where they are known
+abbrev pub known_head : List GivenUnit → Option (List ℕ)
+known_head [] = None
+known_head (u ∷ before) = head_after (known_head before) u.is_unbroken u.numbers u.content
+
+-- whether the last keyframe took more packets than one
+abbrev pub has_long_key : List GivenUnit → Bool
+has_long_key [] = false
+has_long_key (u ∷ before) = long_key_after (has_long_key before) u.numbers u.content.slice
+
 -- A decoder can begin with an access unit behind others: it is whole from its first slice on, which is
 -- that of a keyframe, and the parameter sets came in order, or the decoder has them.
 pub record BeginsDecoding (has_sets : Bool) (u : GivenUnit) (before : List GivenUnit) : Type 0 where
@@ -62,10 +80,21 @@ pub record BeginsDecoding (has_sets : Bool) (u : GivenUnit) (before : List Given
   pub key : is_first_key u.content.slice ≡ true
   pub sets : (has_sets ≡ true) ⊎ HaveSetsCome u.extra (u ∷ before)
 
--- A decoder goes on behind an access unit: no number is missing before it, and it is unbroken, or no
--- picture refers to its own.
-pub record GoesOnDecoding (u : GivenUnit) (before : List GivenUnit) : Type 0 where
-  pub follows : u.numbers.follows ≡ true
+-- Frame numbers of H.264 tell that no reference picture is among what is missing before an access unit
+-- (7.4.3): it begins with the first slice of a picture, and all that is missing is counted; sets came
+-- in band, and all tell the same.
+pub record IsBehindNoLoss (has_sets : Bool) (u : GivenUnit) (before : List GivenUnit) : Type 0 where
+  pub in_band : has_sets ≡ false
+  pub counted : u.numbers.is_counted ≡ true
+  pub own : u.numbers.continues ≡ false
+  pub first : is_first_other u.content.slice ≡ true
+  pub told : tells_none_lost (known_numbering (u ∷ before)) (has_long_key before) (known_head before)
+      u.content.head u.numbers.missing ≡ true
+
+-- A decoder goes on behind an access unit: no number is missing before it, or no reference picture; and
+-- it is unbroken, or no picture refers to its own.
+pub record GoesOnDecoding (has_sets : Bool) (u : GivenUnit) (before : List GivenUnit) : Type 0 where
+  pub reached : (u.numbers.follows ≡ true) ⊎ IsBehindNoLoss has_sets u before
   pub kept : (u.is_unbroken ≡ true)
       ⊎ (is_disposable (known_layer (u ∷ before)) u.content.slice ≡ true)
 
@@ -75,7 +104,7 @@ pub data IsDecodable (has_sets : Bool) : List GivenUnit → Type 0 where
   begins : {u : GivenUnit} {before : List GivenUnit} → BeginsDecoding has_sets u before →
       IsDecodable has_sets (u ∷ before)
   goes_on : {u : GivenUnit} {before : List GivenUnit} → IsDecodable has_sets before →
-      GoesOnDecoding u before → IsDecodable has_sets (u ∷ before)
+      GoesOnDecoding has_sets u before → IsDecodable has_sets (u ∷ before)
 
 -- the last one is told clean where a decoder goes on behind it, and it is unbroken, and nowhere else
 abbrev pub IsCleanWhereDecodable : Bool → GivenUnit → List GivenUnit → Type 0

@@ -1,6 +1,6 @@
 -- What is known of a decoder that is given access units, one after the other (the video standards'
 -- sections on the decoding of keyframes and on pictures that nothing refers to; ours).
-use Rattle.std.specs.Prelude.{ℕ, ◌==◌, Bool, true, false, not, ◌&&◌, ◌||◌, if◌then◌else◌, Option, Some, None}
+use Rattle.std.specs.Prelude.{ℕ, ◌==◌, Bool, true, false, not, ◌&&◌, ◌||◌, if◌then◌else◌, List, Option, Some, None}
 use Rattle.h26x_core.specs.declared.extra.CodecExtra.{CodecExtra}
 use Rattle.h26x_core.specs.declared.extra.CodecExtra.TheVariants as extras
 use Rattle.h26x_access_units.specs.declared.content.ParameterSets.{ParameterSets}
@@ -10,7 +10,9 @@ use Rattle.h26x_access_units.specs.declared.content.UnitKind.TheVariants as kind
 use Rattle.h26x_access_units.specs.declared.content.Content.{Content}
 use Rattle.h26x_access_units.specs.declared.decoder.DecoderState.{DecoderState}
 use Rattle.h26x_access_units.specs.declared.numbers.AccessUnitNumbers.{AccessUnitNumbers}
+use Rattle.h26x_access_units.specs.declared.frame_number.Numbering.TheVariants as numberings
 use Rattle.h26x_access_units.specs.Content.{no_sets, joined_sets}
+use Rattle.h26x_access_units.specs.FrameNumber.{joined_numbering, tells_none_lost}
 
 -- before any access unit
 abbrev pub fresh_decoder : DecoderState
@@ -18,6 +20,9 @@ fresh_decoder = record {
   is_clean = false;
   sets = no_sets;
   highest_layer = 0;
+  numbering = numberings.NotTold;
+  last_head = None;
+  has_long_key = false;
   has_begun = false;
 }
 
@@ -81,11 +86,46 @@ can_begin d has_sets is_unbroken extra numbers content =
     is_unbroken && (not numbers.continues && (is_first_key content.slice
     && (has_sets || are_enough extra (sets_after d is_unbroken numbers content))))
 
--- whether one that could go on before an access unit can go on behind it: nothing is missing before
--- it, nor in it, or no picture refers to its own
-abbrev pub can_go_on : DecoderState → Bool → AccessUnitNumbers → Content → Bool
-can_go_on d is_unbroken numbers content =
-    d.is_clean && (numbers.follows
+-- The bytes behind the header of the first slice of the last reference picture, which a decoder has
+-- that can go on: those of an access unit, or where no picture refers to its own those known before.
+-- Not known behind a picture of which a part is missing or may be, or of which nothing is known.
+abbrev pub head_after_slice : Bool → Bool → Option (List ℕ) → Option (List ℕ) → Option Slice →
+    Option (List ℕ)
+head_after_slice is_unbroken is_counted own before None = None
+head_after_slice is_unbroken is_counted own before (Some it) =
+    if it.is_unreferenced && not it.is_key then (if is_counted then before else None)
+    else (if is_unbroken && it.is_first then own else None)
+
+-- so of an access unit
+abbrev pub head_after : Option (List ℕ) → Bool → AccessUnitNumbers → Content → Option (List ℕ)
+head_after before is_unbroken numbers content =
+    head_after_slice is_unbroken numbers.is_counted content.head before content.slice
+
+-- whether the last keyframe took more packets than one
+abbrev pub long_key_after : Bool → AccessUnitNumbers → Option Slice → Bool
+long_key_after before numbers None = before
+long_key_after before numbers (Some it) =
+    if it.is_key then not (numbers.first == numbers.last) else before
+
+-- whether a slice is the first of a picture that is no keyframe
+abbrev pub is_first_other : Option Slice → Bool
+is_first_other None = false
+is_first_other (Some it) = it.is_first && not it.is_key
+
+-- Whether frame numbers of H.264 tell that no reference picture is among what is missing before an
+-- access unit (`tells_none_lost`): all sets came in band, all that is missing is counted, and it begins
+-- with the first slice of a picture.
+abbrev pub is_behind_no_loss : DecoderState → Bool → AccessUnitNumbers → Content → Bool
+is_behind_no_loss d has_sets numbers content = not has_sets && (numbers.is_counted
+    && (not numbers.continues && (is_first_other content.slice
+    && tells_none_lost (joined_numbering d.numbering content.numbering) d.has_long_key d.last_head
+    content.head numbers.missing)))
+
+-- Whether one that could go on before an access unit can go on behind it: nothing is missing before
+-- it, or no reference picture; nor in it, or no picture refers to its own.
+abbrev pub can_go_on : DecoderState → Bool → Bool → AccessUnitNumbers → Content → Bool
+can_go_on d has_sets is_unbroken numbers content =
+    d.is_clean && ((numbers.follows || is_behind_no_loss d has_sets numbers content)
     && (is_unbroken || is_disposable (layer_after d numbers content) content.slice))
 
 -- Whether an access unit is told to be whole: nothing is missing from its first packet that came on;
@@ -104,8 +144,11 @@ abbrev pub decoder_after : DecoderState → Bool → Bool → CodecExtra → Acc
     DecoderState
 decoder_after d has_sets is_unbroken extra numbers content = record {
   is_clean = can_begin d has_sets is_unbroken extra numbers content
-      || can_go_on d is_unbroken numbers content;
+      || can_go_on d has_sets is_unbroken numbers content;
   sets = sets_after d is_unbroken numbers content;
   highest_layer = layer_after d numbers content;
+  numbering = joined_numbering d.numbering content.numbering;
+  last_head = head_after d.last_head is_unbroken numbers content;
+  has_long_key = long_key_after d.has_long_key numbers content.slice;
   has_begun = true;
 }

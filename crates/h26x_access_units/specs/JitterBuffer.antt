@@ -1,8 +1,8 @@
 -- Packets that wait for those before them: by a window, by time and by bytes (RFC 3550, 5.1; ours).
-use Rattle.std.specs.Prelude.{◌≡◌, ℕ, ◌+◌, ◌<◌, ◌≤◌, ◌-◌, ◌^◌, ◌==◌, nat_lt, nat_le, Bool, true, false, ◌||◌, ◌&&◌, not, if◌then◌else◌, List, [], ◌∷◌, ◌++◌, length, Option, Some, None, slice_get, slice_index_or, min, is_some}
+use Rattle.std.specs.Prelude.{◌≡◌, ℕ, ◌+◌, ◌<◌, ◌≤◌, ◌-◌, ◌^◌, ◌==◌, nat_lt, nat_le, Bool, true, false, ◌||◌, ◌&&◌, not, if◌then◌else◌, List, [], ◌∷◌, ◌++◌, length, Option, Some, None, slice_get, slice_index_or, max, min, is_some}
 use Rattle.h26x_core.specs.Sequence.{distance_ahead}
 use Rattle.h26x_reorder.specs.Rtp.{RtpBody, rtp_body}
-use Rattle.h26x_reorder.specs.ReorderBuffer.{BufferState, fresh_buffer, begun_at, push_answer, after_push, next_packet, without_first, IsHeldInOrder}
+use Rattle.h26x_reorder.specs.ReorderBuffer.{BufferState, fresh_buffer, begun_at, with_window, newest_of, is_ahead_of, are_beyond, push_answer, after_push, next_packet, without_first, IsHeldInOrder}
 use Rattle.h26x_access_units.specs.declared.arrival.Arrival.{Arrival}
 use Rattle.h26x_access_units.specs.declared.config.AccessUnitConfig.{AccessUnitConfig}
 use Rattle.h26x_access_units.specs.declared.pushed.Pushed.{Pushed}
@@ -87,27 +87,45 @@ jitter_answer j p =
     if is_full j (length p.1.payload) then pushes.Full
     else as_pushed (push_answer j.buffer p.0)
 
--- the number of the last packet that waits, or the one that is due where none waits
-abbrev pub newest_of : ℕ → List (ℕ × RtpBody) → ℕ
-newest_of due held =
-    if length held == 0 then due
-    else (slice_index_or held (length held - 1) (0, rtp_body 0 false [])).0
-
 -- whether a number is so far ahead of another one, and so far behind the one that is due, or farther,
 -- and not between them
-abbrev pub is_outside : ℕ → ℕ → ℕ → ℕ → Bool
-is_outside far due newest number =
+abbrev pub is_outside : ℕ → ℕ → ℕ → ℕ → ℕ → Bool
+is_outside far behind due newest number =
     nat_lt (distance_ahead due newest) (distance_ahead due number)
-    && (nat_le far (distance_ahead newest number) && nat_le far (distance_ahead number due))
+    && (nat_le far (distance_ahead newest number) && nat_le behind (distance_ahead number due))
+
+-- how far behind the one that is due a number is at least that is too far: where it isn't said, as far
+-- as ahead
+abbrev pub far_back : ℕ → ℕ → ℕ
+far_back far behind = if behind == 0 then far else behind
 
 -- whether a number is so far ahead of the newest that waits, or of the one that is due, and so far
--- behind the one that is due, or farther (RFC 3550, A.1); where that is 0 none is
-abbrev pub is_far : ℕ → BufferState RtpBody → ℕ → Bool
-is_far far buffer number = elim buffer.due [
+-- behind the one that is due, or farther (RFC 3550, A.1); where the first is 0 none is
+abbrev pub is_far : ℕ → ℕ → BufferState RtpBody → ℕ → Bool
+is_far far behind buffer number = elim buffer.due [
   | None ↦ false
   | Some due ↦ if far == 0 then false
-      else is_outside far due (newest_of due buffer.held) number
+      else is_outside far (far_back far behind) due (newest_of due buffer.held) number
 ]
+
+-- how far ahead of those that wait a packet is taken as it comes: a window, and 100 at least, by which
+-- numbers are out of order (RFC 3550, A.1, MAX_MISORDER)
+abbrev pub reach : ℕ → ℕ
+reach window = max window 100
+
+-- whether a number is farther ahead of the newest that waits, or of the one that is due, and not late
+abbrev pub is_ahead : BufferState RtpBody → ℕ → Bool
+is_ahead buffer number = elim buffer.due [
+  | None ↦ false
+  | Some due ↦ is_ahead_of due (newest_of due buffer.held) number
+      && nat_lt (reach buffer.window) (distance_ahead (newest_of due buffer.held) number)
+]
+
+-- whether a number is no farther ahead of another one, or behind it
+abbrev pub is_near : ℕ → ℕ → ℕ → Bool
+is_near window other number =
+    nat_le (distance_ahead other number) (reach window)
+    || nat_le (distance_ahead number other) (reach window)
 
 -- whether no packet waits, and the stream hasn't ended
 abbrev pub waits_for_none : JitterState → Bool
@@ -120,10 +138,31 @@ with_packet now j p = record j {
   arrivals = j.arrivals ++ arrival_of p.0 now ∷ [];
 }
 
+-- two packets more, which came one after the other
+abbrev pub with_two : ℕ → JitterState → ℕ × RtpBody → ℕ × RtpBody → JitterState
+with_two now j first second = with_packet now (with_packet now j first) second
+
+-- whether what waits stays within the limit with a packet that waited alone, or that is all that waits
+abbrev pub has_room_for : JitterState → ℕ × RtpBody → Bool
+has_room_for j stray = (length j.buffer.held == 0)
+    || nat_le (held_bytes j.buffer.held + length stray.1.payload) j.config.held_limit
+
+-- a packet more waits, near one that waited alone: so does this one, in the order of their numbers,
+-- where it is ahead of all that wait, and there is room
+abbrev pub with_stray : ℕ → JitterState → ℕ × RtpBody → ℕ × RtpBody → JitterState
+with_stray now j stray p =
+    if has_room_for j stray && are_beyond j.buffer stray.0 p.0 then with_two now j stray p
+    else (if has_room_for j stray && are_beyond j.buffer p.0 stray.0 then with_two now j p stray
+    else with_packet now j p)
+
 -- what waits after this answer: a packet that isn't held changes nothing
 abbrev pub after_jitter : ℕ → JitterState → ℕ × RtpBody → Pushed → JitterState
 after_jitter now j p pushes.Held = with_packet now j p
 after_jitter now j p answer = j
+
+-- with other settings from now on
+abbrev pub with_config : AccessUnitConfig → JitterState → JitterState
+with_config config j = record j { config = config; buffer = with_window config.window j.buffer }
 
 -- for how long a packet waits at most: one that begins the stream for its own time
 abbrev pub longest_wait : JitterState → ℕ

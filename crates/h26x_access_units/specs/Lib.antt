@@ -2,8 +2,12 @@ pub mod Arrival
 pub mod Pushed
 pub mod Framing
 pub mod JitterBuffer
+pub mod Passed
 pub mod Numbers
 pub mod Counts
+pub mod Bits
+pub mod FrameNumber
+pub mod LostPictures
 pub mod Content
 pub mod Decoder
 pub mod ReceivedAccessUnit

@@ -31,6 +31,7 @@ fresh_numbers = record {
   unit = None;
   marked = None;
   has_begun = false;
+  has_taken = false;
   skipped_gap = 0;
   carried = 0;
   ended = None;
@@ -48,15 +49,16 @@ is_timestamp (Some marked) timestamp = marked == timestamp
 
 -- the numbers of an access unit of which a packet is the first: it follows the one before where a
 -- packet was taken before it, and none is missing between; with it as many are told that were
--- missing of others
-abbrev pub begun_numbers : Option ℕ → Bool → ℕ → ℕ × RtpBody → ℕ → AccessUnitNumbers
-begun_numbers marked has_begun carried p missing = record {
+-- missing of others; it is counted where a packet was taken since the beginning
+abbrev pub begun_numbers : Option ℕ → Bool → Bool → ℕ → ℕ × RtpBody → ℕ → AccessUnitNumbers
+begun_numbers marked has_begun has_taken carried p missing = record {
   timestamp = p.1.timestamp;
   first = p.0;
   last = p.0;
   missing = missing_sum missing carried;
   continues = is_timestamp marked p.1.timestamp;
   follows = has_begun && (missing == 0);
+  is_counted = has_taken;
 }
 
 -- with a packet more
@@ -67,17 +69,18 @@ numbers_to unit p missing = record unit {
 }
 
 -- the numbers of a packet's access unit: the one that is open, where it has its timestamp
-abbrev pub numbers_with : Option AccessUnitNumbers → Option ℕ → Bool → ℕ → ℕ × RtpBody → ℕ →
-    AccessUnitNumbers
-numbers_with None marked has_begun carried p missing =
-    begun_numbers marked has_begun carried p missing
-numbers_with (Some unit) marked has_begun carried p missing =
+abbrev pub numbers_with : Option AccessUnitNumbers → Option ℕ → Bool → Bool → ℕ → ℕ × RtpBody →
+    ℕ → AccessUnitNumbers
+numbers_with None marked has_begun has_taken carried p missing =
+    begun_numbers marked has_begun has_taken carried p missing
+numbers_with (Some unit) marked has_begun has_taken carried p missing =
     if unit.timestamp == p.1.timestamp then numbers_to unit p missing
-    else begun_numbers marked has_begun carried p missing
+    else begun_numbers marked has_begun has_taken carried p missing
 
 -- so of what is known so far
 abbrev pub unit_numbers : NumbersSoFar → ℕ × RtpBody → ℕ → AccessUnitNumbers
-unit_numbers n p missing = numbers_with n.unit n.marked n.has_begun n.carried p missing
+unit_numbers n p missing =
+    numbers_with n.unit n.marked n.has_begun n.has_taken n.carried p missing
 
 -- how many are still to be told with a later one: none once one begins
 abbrev pub carried_behind : Option AccessUnitNumbers → ℕ → ℕ → ℕ
@@ -101,6 +104,7 @@ after_packet n p missing = record {
       else Some (unit_numbers n p (missing_sum n.skipped_gap missing));
   marked = if p.1.marker then Some p.1.timestamp else None;
   has_begun = true;
+  has_taken = true;
   skipped_gap = 0;
   carried = carried_behind n.unit n.carried p.1.timestamp;
   ended = numbers_ended n.unit p.1.timestamp;
@@ -183,6 +187,7 @@ numbers_of_none = record {
   missing = 0;
   continues = false;
   follows = false;
+  is_counted = false;
 }
 
 -- those of the first access unit that ended

@@ -17,26 +17,32 @@ use Rattle.h26x_access_units.specs.declared.framing.Framing.{Framing}
 use Rattle.h26x_access_units.specs.declared.framing.Shown.{Shown}
 use Rattle.h26x_access_units.specs.Framing.{shown_by, fresh_framing, ends_by_content, framing_with, believes, framing_marked, bears_no_unit}
 use Rattle.h26x_access_units.specs.declared.numbers.NumbersSoFar.{NumbersSoFar}
+use Rattle.h26x_access_units.specs.declared.passed.PassedNumbers.{PassedNumbers}
+use Rattle.h26x_access_units.specs.Passed.{none_passed, is_passed, is_taken_before, passed_with}
+use Rattle.h26x_access_units.specs.declared.way.Way.{Way}
+use Rattle.h26x_access_units.specs.declared.way.Way.TheVariants as ways
 use Rattle.h26x_access_units.specs.declared.pushed.Pushed.{Pushed}
 use Rattle.h26x_access_units.specs.declared.pushed.Pushed.TheVariants as pushes
 use Rattle.h26x_access_units.specs.Counts.{no_counts, counted_push, counted_dropped, counted_due, counted_no_unit, counted_framing, counted_unit, counted_reason}
-use Rattle.h26x_access_units.specs.JitterBuffer.{JitterState, may_tell_first, begun_jitter, longest_wait, awaited, is_far, jitter_answer, after_jitter, due_packet, without_due, fresh_jitter, with_held_limit, waits_for_none}
+use Rattle.h26x_access_units.specs.JitterBuffer.{JitterState, may_tell_first, begun_jitter, longest_wait, awaited, is_far, is_ahead, is_near, is_full, jitter_answer, after_jitter, with_packet, with_stray, with_config, due_packet, without_due, fresh_jitter, with_held_limit, waits_for_none}
 use Rattle.h26x_access_units.specs.Numbers.{fresh_numbers, missing_told, is_timestamp, after_gap, after_missing, begun_numbers_at, bears_nothing, numbers_after, numbers_closed, numbers_still, numbers_carrying, after_last, first_ended, without_first_ended}
 use Rattle.h26x_access_units.specs.ReceivedAccessUnit.{ReceivedAccessUnitValue, received_unit, decoder_with, whole_with, received_unit_value}
-use Rattle.std.specs.Option.{option_map}
+use Rattle.std.specs.Option.{option_map, unwrap_or}
 use Rattle.h26x_access_units.specs.declared.pushed.NotPushedReason.{NotPushedReason}
 use Rattle.h26x_access_units.specs.declared.unit.ReceivedAccessUnit.{ReceivedAccessUnit}
 use Rattle.h26x_access_units.specs.Missing.{missing_numbers, AreExactlyMissing}
 use Rattle.h26x_access_units.specs.Arrival.{deadline_of}
 
 -- what a receiver is to contracts: what waits, and the packet that waits alone; whether the stream has
--- begun anew, so that the access unit that is open is to end; the assembler of access units, those
--- that ended and weren't given out; what is known of where they end; their numbers; what is known of a
--- decoder that is given them; the counts; and the limits on an open run and on an open access unit
+-- begun anew, so that the access unit that is open is to end; which of the last numbers were taken; the
+-- assembler of access units, those that ended and weren't given out; what is known of where they end;
+-- their numbers; what is known of a decoder that is given them; the counts; and the limits on an open
+-- run and on an open access unit
 pub record Reception : Type 0 where
   pub waiting : JitterState
   pub stray : Option (ℕ × RtpBody)
   pub is_anew : Bool
+  pub passed : PassedNumbers
   pub assembler : Assembly
   pub framing : Framing
   pub numbers : NumbersSoFar
@@ -51,24 +57,26 @@ has_no_unit [] = true
 has_no_unit (unit ∷ units) = false
 
 -- these
-abbrev pub reception : JitterState → Option (ℕ × RtpBody) → Bool → Assembly → Framing →
-    NumbersSoFar → DecoderState → Counts → ℕ → ℕ → Reception
-reception waiting stray is_anew assembler framing numbers decoder counts run_limit unit_limit = record {
-  waiting = waiting;
-  stray = stray;
-  is_anew = is_anew;
-  assembler = assembler;
-  framing = framing;
-  numbers = numbers;
-  decoder = decoder;
-  counts = counts;
-  run_limit = run_limit;
-  unit_limit = unit_limit;
-}
+abbrev pub reception : JitterState → Option (ℕ × RtpBody) → Bool → PassedNumbers → Assembly →
+    Framing → NumbersSoFar → DecoderState → Counts → ℕ → ℕ → Reception
+reception waiting stray is_anew passed assembler framing numbers decoder counts run_limit unit_limit
+    = record {
+      waiting = waiting;
+      stray = stray;
+      is_anew = is_anew;
+      passed = passed;
+      assembler = assembler;
+      framing = framing;
+      numbers = numbers;
+      decoder = decoder;
+      counts = counts;
+      run_limit = run_limit;
+      unit_limit = unit_limit;
+    }
 
 -- before any packet came
 abbrev pub fresh_reception : AccessUnitConfig → DepacketizerState → Reception
-fresh_reception config state = reception (fresh_jitter config) None false
+fresh_reception config state = reception (fresh_jitter config) None false none_passed
     (open_assembly state None none_open []) fresh_framing fresh_numbers fresh_decoder no_counts
     config.run_limit config.unit_limit
 
@@ -89,6 +97,7 @@ restarted s = record s {
   waiting = fresh_jitter s.waiting.config;
   stray = None;
   is_anew = false;
+  passed = none_passed;
   assembler = open_assembly s.assembler.state None none_open [];
   framing = fresh_framing;
   numbers = fresh_numbers;
@@ -100,17 +109,51 @@ abbrev pub is_behind_stray : Option (ℕ × RtpBody) → ℕ → Bool
 is_behind_stray None number = false
 is_behind_stray (Some stray) number = number == next_sequence_number stray.0
 
--- whether a number is too far from the one that is due and from those that wait (RFC 3550, A.1)
-abbrev pub is_too_far : Reception → ℕ → Bool
-is_too_far s number = is_far s.waiting.config.far s.waiting.buffer number
+-- whether a number is one of the last 1024 that the stream passed, and was taken
+abbrev pub is_repeat : Reception → ℕ → Bool
+is_repeat s number = is_taken_before s.passed s.waiting.buffer.due number
 
--- what is answered for a packet: one that is too far from the one that is due waits alone, and where
--- the next such one follows it the stream begins anew
+-- whether a number is too far from the one that is due and from those that wait, and none of the last
+-- 1024 that the stream passed (RFC 3550, A.1)
+abbrev pub is_too_far : Reception → ℕ → Bool
+is_too_far s number = is_far s.waiting.config.far s.waiting.config.far_behind s.waiting.buffer number
+    && not (is_passed s.passed s.waiting.buffer.due number)
+
+-- whether a number is near that of the packet that waits alone
+abbrev pub is_near_stray : ℕ → Option (ℕ × RtpBody) → ℕ → Bool
+is_near_stray window None number = false
+is_near_stray window (Some stray) number = is_near window stray.0 number
+
+-- what is answered for a packet that is too far: it waits alone, and where it follows the one that
+-- waited alone the stream begins anew
+abbrev pub far_answer : Reception → ℕ × RtpBody → Pushed
+far_answer s p = if is_behind_stray s.stray p.0 then pushes.Anew else pushes.Stray
+
+-- what is answered for one that is more than a window ahead: it waits alone, and where it is near the
+-- one that waited alone both wait
+abbrev pub ahead_answer : Reception → ℕ × RtpBody → Pushed
+ahead_answer s p = if is_near_stray s.waiting.buffer.window s.stray p.0
+    then (if is_full s.waiting (length p.1.payload) then pushes.Full else pushes.Jumped)
+    else pushes.Stray
+
+-- what a packet's number is to a receiver (RFC 3550, A.1): a number that was taken, one that is too
+-- far, one that is more than a window ahead, or one within the window or late
+abbrev pub way_of : Reception → ℕ → Way
+way_of s number =
+    if is_repeat s number then ways.Repeat
+    else (if is_too_far s number then ways.Far
+    else (if is_ahead s.waiting.buffer number then ways.Ahead else ways.Window))
+
+-- what is answered for a packet, by that
+abbrev pub answer_on : Way → Reception → ℕ × RtpBody → Pushed
+answer_on ways.Repeat s p = pushes.Twice
+answer_on ways.Far s p = far_answer s p
+answer_on ways.Ahead s p = ahead_answer s p
+answer_on ways.Window s p = jitter_answer s.waiting p
+
+-- so for a packet that comes
 abbrev pub reception_answer : Reception → ℕ × RtpBody → Pushed
-reception_answer s p =
-    if is_too_far s p.0
-    then (if is_behind_stray s.stray p.0 then pushes.Anew else pushes.Stray)
-    else jitter_answer s.waiting p
+reception_answer s p = answer_on (way_of s p.0) s p
 
 -- so for one that was pushed, but for a refusal
 abbrev pub IsPushAnswer : {E : Type 0} → Reception → ℕ × RtpBody → Result Pushed E → Type 0
@@ -129,6 +172,11 @@ anew_of now config (Some stray) p = record
       config = config;
     }
 
+-- what waits once a packet came that is near one that waited alone
+abbrev pub held_with : ℕ → JitterState → Option (ℕ × RtpBody) → ℕ × RtpBody → JitterState
+held_with now j None p = with_packet now j p
+held_with now j (Some stray) p = with_stray now j stray p
+
 -- after a packet came, at this tick, that is answered so
 abbrev pub after_reception : ℕ → Reception → ℕ × RtpBody → Pushed → Reception
 after_reception now s p pushes.Stray = record s {
@@ -139,7 +187,12 @@ after_reception now s p pushes.Anew = record s {
   waiting = anew_of now s.waiting.config s.stray p;
   stray = None;
   is_anew = true;
+  passed = none_passed;
   counts = counted_dropped (counted_push s.counts pushes.Anew) (length s.waiting.buffer.held);
+}
+after_reception now s p pushes.Jumped = record s {
+  waiting = held_with now s.waiting s.stray p;
+  stray = None;
 }
 after_reception now s p answer = record s {
   waiting = after_jitter now s.waiting p answer;
@@ -288,6 +341,7 @@ believed_packet s p = believed (framing_at s p) p
 abbrev pub after_due : Reception → ℕ × RtpBody → Result Received PacketError → Reception
 after_due s p answer = record s {
   waiting = without_due s.waiting;
+  passed = passed_with (unwrap_or (awaited s.waiting) 0) p.0 s.passed;
   assembler = marker_forgotten (assembly_after s.run_limit s.unit_limit (begun_for s.assembler p)
       (believed_packet s p) answer);
   framing = framing_answered s.framing (framing_at s p) (believed_packet s p) answer;
@@ -451,9 +505,23 @@ abbrev pub after_finish : Reception → Reception
 after_finish s = record s {
   waiting = fresh_jitter s.waiting.config;
   stray = None;
+  passed = none_passed;
   assembler = after_finishing s.assembler;
   framing = fresh_framing;
   numbers = after_last s.numbers;
+}
+
+-- the settings
+abbrev pub settings : Reception → AccessUnitConfig
+settings s =
+    record s.waiting.config { run_limit = s.run_limit; unit_limit = s.unit_limit }
+
+-- with other settings from now on
+abbrev pub with_settings : AccessUnitConfig → Reception → Reception
+with_settings config s = record s {
+  waiting = with_config config s.waiting;
+  run_limit = config.run_limit;
+  unit_limit = config.unit_limit;
 }
 
 -- where the stream has begun anew, and no access unit that ended is left, the one that is open ends

@@ -11,12 +11,14 @@ ghost use Rattle.h26x_core.specs.Sequence.{is_late};
 ghost use Rattle.h26x_reorder.specs.Rtp.{rtp_body};
 ghost use Rattle.h26x_reorder.specs.ReorderBuffer.{buffer_state, IsHeldInOrder};
 ghost use Rattle.h26x_assembler.specs.AccessUnit.{empty_unit};
-ghost use Rattle.h26x_access_units.specs.JitterBuffer.{fresh_jitter};
+ghost use Rattle.h26x_access_units.specs.JitterBuffer.{fresh_jitter, is_far, is_ahead, is_near, with_stray};
+ghost use Rattle.h26x_access_units.specs.Passed.{is_passed, passed_behind, is_told_taken};
 ghost use Rattle.h26x_access_units.specs.declared.config.AccessUnitConfig.{AccessUnitConfig};
-ghost use Rattle.h26x_access_units.specs.Reception.{fresh_reception, is_taken_at_once};
+ghost use Rattle.h26x_access_units.specs.Reception.{fresh_reception, reception_answer, is_taken_at_once};
 ghost use Rattle.h26x_access_units.specs.Limits.{IsWithinLimits};
 ghost use Rattle.h26x_core.specs.declared.extra.CodecExtra.TheVariants as extras;
 ghost use Rattle.h26x_access_units.specs.declared.content.UnitKind.TheVariants as kinds;
+ghost use Rattle.h26x_access_units.specs.declared.frame_number.Numbering.TheVariants as numberings;
 ghost use Rattle.h26x_access_units.specs.Content.{no_sets, all_sets, no_content, slice, h264_kind, h265_kind, h266_kind, content_from, content_of};
 ghost use Rattle.h26x_access_units.specs.Decoder.{fresh_decoder, are_enough, is_front, is_disposable, tells_whole, shows, decoder_after};
 ghost use Rattle.h26x_access_units.specs.Numbers.{numbers_of_none, begun_numbers, numbers_closed, numbers_still, numbers_carrying};
@@ -61,6 +63,95 @@ pub fn what_waits_at_the_edges()
         ∷ (32765, rtp_body 0 false []) ∷ []) }
     ensures late { is_late (Some 65534) 32765 ≡ false }
     ensures over { is_late (Some 65534) 32766 ≡ true }
+{}
+
+/// Of 7 and 9, taken in their turn behind 5, both are told when they come again, and 8, which was lost,
+/// isn't; nor is one that was taken 1024 before, or that shares a place with one.
+pub fn numbers_that_come_again()
+    ensures last { is_told_taken 5 (9 ∷ 7 ∷ []) 9 ≡ true }
+    ensures first { is_told_taken 5 (9 ∷ 7 ∷ []) 7 ≡ true }
+    ensures lost { is_told_taken 5 (9 ∷ 7 ∷ []) 8 ≡ false }
+    ensures passed { is_passed (passed_behind 5 (9 ∷ 7 ∷ [])) (Some 10) 8 ≡ true }
+    ensures before { is_passed (passed_behind 5 (9 ∷ 7 ∷ [])) (Some 10) 4 ≡ false }
+    ensures due { is_told_taken 5 (9 ∷ 7 ∷ []) 10 ≡ false }
+    ensures round { is_told_taken 65534 (2 ∷ 65535 ∷ []) 65535 ≡ true }
+    ensures at { is_told_taken 7 (1030 ∷ 7 ∷ []) 7 ≡ true }
+    ensures over { is_told_taken 7 (1031 ∷ 7 ∷ []) 7 ≡ false }
+    ensures place { is_told_taken 7 (1031 ∷ 7 ∷ []) 1031 ≡ true }
+{}
+
+/// RFC 3550, A.1: from 3000 ahead on, and from 100 behind on, a number is too far.
+pub fn numbers_too_far()
+    ensures near { is_far 3000 100 (buffer_state 64 (Some 1000) []) 3999 ≡ false }
+    ensures far { is_far 3000 100 (buffer_state 64 (Some 1000) []) 4000 ≡ true }
+    ensures behind { is_far 3000 100 (buffer_state 64 (Some 1000) []) 900 ≡ true }
+    ensures less { is_far 3000 100 (buffer_state 64 (Some 1000) []) 901 ≡ false }
+    ensures unsaid { is_far 3000 0 (buffer_state 64 (Some 1000) []) 900 ≡ false }
+    ensures unsaid_far { is_far 3000 0 (buffer_state 64 (Some 4000) []) 1000 ≡ true }
+    ensures newest { is_far 3000 100 (buffer_state 64 (Some 1000)
+        ((1060, rtp_body 0 false []) ∷ [])) 4059 ≡ false }
+    ensures none { is_far 0 100 (buffer_state 64 (Some 1000) []) 30000 ≡ false }
+{}
+
+/// A number is ahead that is more than a window, and than 100, ahead of the newest, to less than half
+/// of the circle.
+pub fn numbers_ahead()
+    ensures within { is_ahead (buffer_state 512 (Some 1000) []) 1512 ≡ false }
+    ensures ahead { is_ahead (buffer_state 512 (Some 1000) []) 1513 ≡ true }
+    ensures small { is_ahead (buffer_state 1 (Some 1000) []) 1100 ≡ false }
+    ensures past_small { is_ahead (buffer_state 1 (Some 1000) []) 1101 ≡ true }
+    ensures newest { is_ahead (buffer_state 512 (Some 1000)
+        ((1060, rtp_body 0 false []) ∷ [])) 1572 ≡ false }
+    ensures most { is_ahead (buffer_state 64 (Some 1000) []) 33767 ≡ true }
+    ensures late { is_ahead (buffer_state 64 (Some 1000) []) 33768 ≡ false }
+    ensures none { is_ahead (buffer_state 64 None []) 1065 ≡ false }
+    ensures near { is_near 512 1000 1512 ≡ true }
+    ensures too_far { is_near 512 1000 1513 ≡ false }
+    ensures before { is_near 512 1512 1000 ≡ true }
+    ensures near_small { is_near 1 1000 1100 ≡ true }
+{}
+
+/// Where 1000 is due in a window of 64, 3500 waits alone; 3501 has both wait, and so has 3499, put
+/// first; 3601 waits alone in its place. Where the bytes of both pass the limit the second alone waits.
+pub fn packets_that_jump()
+    ensures alone { (config : AccessUnitConfig) (state : DepacketizerState) →
+        let j = record (fresh_jitter (record config { far = 3000; far_behind = 100; held_limit = 9 })) {
+          buffer = buffer_state 64 (Some 1000) [];
+        } in
+        let s = record (fresh_reception config state) { waiting = j } in
+        reception_answer s (3500, rtp_body 0 false (0x61 ∷ [])) ≡ Pushed.Stray }
+    ensures joins { (config : AccessUnitConfig) (state : DepacketizerState) →
+        let j = record (fresh_jitter (record config { far = 3000; far_behind = 100; held_limit = 9 })) {
+          buffer = buffer_state 64 (Some 1000) [];
+        } in
+        let s = record (fresh_reception config state) {
+          waiting = j;
+          stray = Some (3500, rtp_body 0 false (0x61 ∷ []));
+        } in
+        reception_answer s (3501, rtp_body 0 false (0x61 ∷ [])) ≡ Pushed.Jumped }
+    ensures other { (config : AccessUnitConfig) (state : DepacketizerState) →
+        let j = record (fresh_jitter (record config { far = 3000; far_behind = 100; held_limit = 9 })) {
+          buffer = buffer_state 64 (Some 1000) [];
+        } in
+        let s = record (fresh_reception config state) {
+          waiting = j;
+          stray = Some (3500, rtp_body 0 false (0x61 ∷ []));
+        } in
+        reception_answer s (3601, rtp_body 0 false (0x61 ∷ [])) ≡ Pushed.Stray }
+    ensures behind { (config : AccessUnitConfig) →
+        let j = record (fresh_jitter config) { buffer = buffer_state 64 (Some 1000) [] } in
+        (with_stray 5 j (3500, rtp_body 0 false []) (3501, rtp_body 0 false [])).buffer.held
+        ≡ (3500, rtp_body 0 false []) ∷ (3501, rtp_body 0 false []) ∷ [] }
+    ensures before { (config : AccessUnitConfig) →
+        let j = record (fresh_jitter config) { buffer = buffer_state 64 (Some 1000) [] } in
+        (with_stray 5 j (3500, rtp_body 0 false []) (3499, rtp_body 0 false [])).buffer.held
+        ≡ (3499, rtp_body 0 false []) ∷ (3500, rtp_body 0 false []) ∷ [] }
+    ensures full { (config : AccessUnitConfig) →
+        let j = record (fresh_jitter (record config { held_limit = 2 })) {
+          buffer = buffer_state 64 (Some 1000) ((1001, rtp_body 0 false (1 ∷ 2 ∷ [])) ∷ []);
+        } in
+        (with_stray 5 j (3500, rtp_body 0 false (3 ∷ [])) (3501, rtp_body 0 false [])).buffer.held
+        ≡ (1001, rtp_body 0 false (1 ∷ 2 ∷ [])) ∷ (3501, rtp_body 0 false []) ∷ [] }
 {}
 
 /// A packet that waits alone is as long as packets may be, or longer.
@@ -199,6 +290,7 @@ pub fn kinds_of_h266_units()
 
 /// A text is looked at up to its first slice: behind start codes of three bytes or four, or behind
 /// lengths.
+#[tactic(auto, unfolding(crate::specs::Bits::code_of, crate::specs::Bits::bits_number))]
 pub fn texts_up_to_the_first_slice()
     ensures layers { (content_of false (extras.H265 (record { is_keyframe = false }))
         (0 ∷ 0 ∷ 1 ∷ 0x42 ∷ 0x01 ∷ 0x05 ∷ 0 ∷ 0 ∷ 1 ∷ 0x42 ∷ 0x01 ∷ 0x01 ∷ [])).highest_layer
@@ -212,6 +304,8 @@ pub fn texts_up_to_the_first_slice()
           highest_layer = 0;
           picture_header = None;
           slice = Some (slice true true false 0);
+          numbering = numberings.Unusable;
+          head = Some (0x88 ∷ 0 ∷ 0 ∷ 1 ∷ 0x09 ∷ 0 ∷ 0 ∷ 0 ∷ []);
         } }
     ensures avc { content_of true (extras.H265 (record { is_keyframe = false }))
         (0 ∷ 0 ∷ 0 ∷ 3 ∷ 0x42 ∷ 0x01 ∷ 0x03 ∷ 0 ∷ 0 ∷ 0 ∷ 3 ∷ 0x00 ∷ 0x02 ∷ 0x80 ∷ [])
@@ -221,6 +315,8 @@ pub fn texts_up_to_the_first_slice()
           highest_layer = 2;
           picture_header = None;
           slice = Some (slice true false true 2);
+          numbering = numberings.NotTold;
+          head = None;
         } }
     ensures header { content_of false (extras.H266 (record { is_keyframe = false }))
         (0 ∷ 0 ∷ 1 ∷ 0x00 ∷ 0x99 ∷ 0x40 ∷ 0 ∷ 0 ∷ 1 ∷ 0x00 ∷ 0x01 ∷ 0x00 ∷ [])
@@ -230,6 +326,8 @@ pub fn texts_up_to_the_first_slice()
           highest_layer = 0;
           picture_header = Some true;
           slice = Some (slice true false true 0);
+          numbering = numberings.NotTold;
+          head = None;
         } }
     ensures most { (is_avc : Bool) (text : List ℕ) → content_of is_avc extras.None text
         ≡ content_from is_avc extras.None 64 no_content text }
@@ -351,9 +449,9 @@ pub fn access_units_told_whole()
 
 /// An access unit follows where a packet was taken before its first, and none is missing between.
 pub fn access_units_that_follow()
-    ensures follows { (begun_numbers None true 0 (7, rtp_body 0 false []) 0).follows ≡ true }
-    ensures gap { (begun_numbers None true 0 (7, rtp_body 0 false []) 1).follows ≡ false }
-    ensures begins { (begun_numbers None false 0 (7, rtp_body 0 false []) 0).follows ≡ false }
+    ensures follows { (begun_numbers None true true 0 (7, rtp_body 0 false []) 0).follows ≡ true }
+    ensures gap { (begun_numbers None true true 0 (7, rtp_body 0 false []) 1).follows ≡ false }
+    ensures begins { (begun_numbers None false false 0 (7, rtp_body 0 false []) 0).follows ≡ false }
 {}
 
 /// The packet that begins the stream waits for its own time, and none before it is missing.
@@ -549,7 +647,7 @@ pub fn numbers_that_are_carried()
         { unit = Some (record numbers_of_none { missing = 1 }) }) 2).unit
         ≡ Some (record numbers_of_none { missing = 3 }) }
     ensures none { (numbers_carrying (record fresh_numbers { carried = 1 }) 2).carried ≡ 3 }
-    ensures told { let it = begun_numbers None true 3 (7, rtp_body 0 false []) 0 in
+    ensures told { let it = begun_numbers None true true 3 (7, rtp_body 0 false []) 0 in
         (it.missing ≡ 3) × (it.follows ≡ true) }
     ensures told_once { (numbers_after None (record fresh_numbers { carried = 3 })
         (7, rtp_body 0 false (0x61 ∷ [])) (Ok Received.InOrder)).carried ≡ 0 }
@@ -620,5 +718,5 @@ pub fn what_a_stream_leaves()
     ensures end { (config : AccessUnitConfig) (state : DepacketizerState) →
         let s = record (fresh_reception config state) { stray = Some (7, rtp_body 0 false []) } in
         ((after_finish s).stray ≡ None) × ((restarted s).stray ≡ None) }
-    ensures gap { (begun_numbers None true 0 (7, rtp_body 0 false []) 3).missing ≡ 3 }
+    ensures gap { (begun_numbers None true true 0 (7, rtp_body 0 false []) 3).missing ≡ 3 }
 {}

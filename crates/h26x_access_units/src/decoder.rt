@@ -1,9 +1,11 @@
 //! What is known of a decoder that is given the access units, one after the other.
 
 ghost use Rattle.std.specs.Prelude.{◌≡◌};
-ghost use Rattle.h26x_access_units.specs.Decoder.{fresh_decoder, are_enough, is_front, is_first_key, is_disposable, sets_before, sets_after, layer_after, can_begin, can_go_on, tells_whole, shows, decoder_after};
+ghost use Rattle.h26x_access_units.specs.FrameNumber.{tells_none_lost, joined_numbering};
+ghost use Rattle.h26x_access_units.specs.Decoder.{fresh_decoder, are_enough, is_front, is_first_key, is_disposable, sets_before, sets_after, layer_after, head_after_slice, head_after, long_key_after, is_first_other, is_behind_no_loss, can_begin, can_go_on, tells_whole, shows, decoder_after};
 
 use crate::content::{Content, ParameterSets, UnitKind};
+use crate::frame_number::{Numbering, tells_none_lost};
 use crate::numbers::AccessUnitNumbers;
 use h26x_core::CodecExtra;
 
@@ -17,6 +19,13 @@ pub(crate) struct DecoderState {
     pub sets: ParameterSets,
     /// The highest temporal layer that sequence parameter sets tell, or 0.
     pub highest_layer: u8,
+    /// What all sequence parameter sets of H.264 tell of frame numbers.
+    pub numbering: Numbering,
+    /// The bytes behind the header of the first slice of the last reference picture of H.264, which a
+    /// decoder has that can go on, where they are known.
+    pub last_head: Option<[u8; 8]>,
+    /// Whether the last keyframe took more packets than one.
+    pub has_long_key: bool,
     /// Whether an access unit was given out since the beginning or `restart`.
     pub has_begun: bool,
 }
@@ -44,6 +53,17 @@ fn is_first_key(content: Content) -> bool
     }
 }
 
+/// Whether the first slice is the first of a picture that is no keyframe.
+#[inline]
+fn is_first_other(content: Content) -> bool
+    ensures { result ≡ is_first_other content.slice }
+{
+    match content.slice {
+        Some(slice) => slice.is_first && !slice.is_key,
+        None => false,
+    }
+}
+
 impl DecoderState {
     /// Before any access unit.
     #[inline]
@@ -54,6 +74,9 @@ impl DecoderState {
             is_clean: false,
             sets: ParameterSets::NONE,
             highest_layer: 0,
+            numbering: Numbering::NotTold,
+            last_head: None,
+            has_long_key: false,
             has_begun: false,
         }
     }
@@ -161,12 +184,75 @@ impl DecoderState {
             && (has_sets || are_enough(extra, self.sets_after(is_unbroken, numbers, content)))
     }
 
+    /// The bytes behind the header of the first slice of the last reference picture.
+    #[inline]
+    fn head_after(
+        self,
+        is_unbroken: bool,
+        numbers: AccessUnitNumbers,
+        content: Content,
+    ) -> Option<[u8; 8]>
+        ensures { result ≡ head_after self.last_head is_unbroken numbers content }
+    {
+        let slice = content.slice?;
+        if slice.is_unreferenced && !slice.is_key {
+            return if numbers.is_counted {
+                self.last_head
+            } else {
+                None
+            };
+        }
+        if is_unbroken && slice.is_first {
+            content.head
+        } else {
+            None
+        }
+    }
+
+    /// Whether the last keyframe took more packets than one.
+    #[inline]
+    fn long_key_after(self, numbers: AccessUnitNumbers, content: Content) -> bool
+        ensures { result ≡ long_key_after self.has_long_key numbers content.slice }
+    {
+        match content.slice {
+            Some(slice) if slice.is_key => numbers.first != numbers.last,
+            _ => self.has_long_key,
+        }
+    }
+
+    /// Whether frame numbers of H.264 tell that no reference picture is among what is missing before an
+    /// access unit.
+    #[cold]
+    #[inline(never)]
+    fn is_behind_no_loss(self, has_sets: bool, numbers: AccessUnitNumbers, content: Content) -> bool
+        ensures { result ≡ is_behind_no_loss self has_sets numbers content }
+    {
+        let is_asked = !has_sets && numbers.is_counted && !numbers.continues;
+        is_asked
+            && is_first_other(content)
+            && tells_none_lost(
+                self.numbering.joined(content.numbering),
+                self.has_long_key,
+                self.last_head,
+                content.head,
+                numbers.missing,
+            )
+    }
+
     /// Whether a decoder that could go on before an access unit can go on behind it.
     #[inline]
-    fn can_go_on(self, is_unbroken: bool, numbers: AccessUnitNumbers, content: Content) -> bool
-        ensures { result ≡ can_go_on self is_unbroken numbers content }
+    fn can_go_on(
+        self,
+        has_sets: bool,
+        is_unbroken: bool,
+        numbers: AccessUnitNumbers,
+        content: Content,
+    ) -> bool
+        ensures { result ≡ can_go_on self has_sets is_unbroken numbers content }
     {
-        self.is_clean && numbers.follows && (is_unbroken || self.is_disposable(numbers, content))
+        self.is_clean
+            && (numbers.follows || self.is_behind_no_loss(has_sets, numbers, content))
+            && (is_unbroken || self.is_disposable(numbers, content))
     }
 
     /// Whether an access unit is told to be whole, which is unbroken from its first packet on or isn't.
@@ -207,9 +293,12 @@ impl DecoderState {
     {
         DecoderState {
             is_clean: self.can_begin(has_sets, is_unbroken, extra, numbers, content)
-                || self.can_go_on(is_unbroken, numbers, content),
+                || self.can_go_on(has_sets, is_unbroken, numbers, content),
             sets: self.sets_after(is_unbroken, numbers, content),
             highest_layer: self.layer_after(numbers, content),
+            numbering: self.numbering.joined(content.numbering),
+            last_head: self.head_after(is_unbroken, numbers, content),
+            has_long_key: self.long_key_after(numbers, content),
             has_begun: true,
         }
     }

@@ -1,13 +1,14 @@
 //! Packets that wait for those before them, by a window, by time and by bytes.
 
-ghost use Rattle.std.specs.Prelude.{◌≡◌, ℕ, ◌+◌, ◌^◌, ◌<◌, ◌≤◌, ◌==◌, ◌++◌, true, false, IfOk, IfErr, OnOk, OnErr, MatchOption, length, slice_get};
+ghost use Rattle.std.specs.Prelude.{◌≡◌, ℕ, ◌+◌, ◌^◌, ◌<◌, ◌≤◌, ◌==◌, ◌++◌, true, false, not, if◌then◌else◌, IfOk, IfErr, OnOk, OnErr, MatchOption, length, slice_get};
 ghost use Rattle.std.specs.Option.{option_map};
 ghost use Rattle.h26x_reorder.specs.Rtp.{RtpBody};
-ghost use Rattle.h26x_reorder.specs.ReorderBuffer.{numbered_packet, goes_straight};
+ghost use Rattle.h26x_reorder.specs.ReorderBuffer.{numbered_packet, push_answer, are_beyond, goes_straight};
+ghost use Rattle.h26x_reorder.specs.declared.pushed.Pushed.TheVariants as buffered;
 ghost use Rattle.h26x_access_units.specs.Arrival.{deadline_of, has_waited};
 ghost use Rattle.h26x_access_units.specs.Pushed.{IsNotPushedReason, not_pushed_reason};
 ghost use Rattle.h26x_access_units.specs.Missing.{numbers_from, missing_numbers, AreExactlyMissing};
-ghost use Rattle.h26x_access_units.specs.JitterBuffer.{with_packet, newest_of, is_far, with_held_limit, fresh_jitter, held_bytes, is_past_limit, is_full, is_pressed, jitter_answer, after_jitter, longest_wait, awaited, may_tell_first, begun_jitter, due_packet, without_due, waits_for_none};
+ghost use Rattle.h26x_access_units.specs.JitterBuffer.{with_packet, far_back, reach, is_far, is_ahead, is_near, with_config, with_held_limit, fresh_jitter, held_bytes, is_past_limit, is_full, is_pressed, jitter_answer, after_jitter, has_room_for, with_two, with_stray, longest_wait, awaited, may_tell_first, begun_jitter, due_packet, without_due, waits_for_none};
 
 use crate::arrival::{Arrival, from_at, let_go};
 use crate::config::AccessUnitConfig;
@@ -16,6 +17,9 @@ use h26x_reorder::{self, HeldPacket, ReorderBuffer, RtpPacket};
 use std::alloc::{AllocError, Global};
 use std::collections::VecDeque;
 use std::marker::Model;
+
+/// How far numbers are out of order at most (RFC 3550, A.1).
+const MAX_MISORDER: u16 = 100;
 
 /// Appends numbers from one on, so many.
 fn append_numbers(numbers: &mut Vec<u16>, first: u16, count: u16) -> Result<(), AllocError>
@@ -90,32 +94,80 @@ impl JitterBuffer {
         self.config.held_limit = limit;
     }
 
-    /// The number of the last packet that waits, or the one that is due where none waits.
-    fn newest(&self, due: u16) -> u16
-        ensures { result ≡ newest_of due self.now.buffer.held }
+    /// Has other settings from now on.
+    pub fn set_config(&mut self, config: AccessUnitConfig)
+        requires some { 0 < config.window }
+        requires half { config.window ≤ 2 ^ 14 }
+        ensures { self.new ≡ with_config config self.old }
     {
-        match self.buffer.len() {
-            0 => due,
-            len => self.buffer.number_at(len - 1),
-        }
+        self.config = config;
+        self.buffer.set_window(config.window);
+    }
+
+    /// The number that is due, if a packet came.
+    #[inline]
+    pub(crate) fn due(&self) -> Option<u16>
+        ensures { result ≡ self.now.buffer.due }
+    {
+        self.buffer.due()
     }
 
     /// Whether a number is so far ahead of the newest that waits, or of the one that is due where none
     /// waits, and so far behind the one that is due, that it is a stray (RFC 3550, A.1).
     pub fn is_far(&self, number: u16) -> bool
-        ensures { result ≡ is_far self.now.config.far self.now.buffer number }
+        ensures { result ≡ is_far self.now.config.far self.now.config.far_behind
+            self.now.buffer number }
     {
         let far = self.config.far;
         match self.buffer.due() {
             Some(due) if far != 0 && number.wrapping_sub(due) >= far => {
-                let newest = self.newest(due);
+                let newest = self.buffer.newest(due);
                 let is_between = number.wrapping_sub(due) <= newest.wrapping_sub(due);
                 let ahead = number.wrapping_sub(newest);
                 let behind = due.wrapping_sub(number);
-                !is_between && ahead >= far && behind >= far
+                !is_between && ahead >= far && behind >= self.far_back()
             }
             _ => false,
         }
+    }
+
+    /// How far behind the number that is due one is at least that is too far.
+    fn far_back(&self) -> u16
+        ensures { result ≡ far_back self.now.config.far self.now.config.far_behind }
+    {
+        match self.config.far_behind {
+            0 => self.config.far,
+            behind => behind,
+        }
+    }
+
+    /// How far ahead of those that wait a packet is taken as it comes.
+    fn reach(&self) -> u16
+        ensures { result ≡ reach self.now.buffer.window }
+    {
+        self.config.window.max(MAX_MISORDER)
+    }
+
+    /// Whether a number is more than a window, and than 100, ahead of the newest that waits, or of the
+    /// one that is due where none waits, and not late.
+    pub fn is_ahead(&self, number: u16) -> bool
+        ensures ahead { result ≡ is_ahead self.now.buffer number }
+        ensures held { result ≡ true → push_answer self.now.buffer number ≡ buffered.Held }
+    {
+        match self.buffer.due() {
+            Some(due) if self.buffer.is_beyond(number) => {
+                number.wrapping_sub(self.buffer.newest(due)) > self.reach()
+            }
+            _ => false,
+        }
+    }
+
+    /// Whether a number is near another one: no more than a window, or than 100, ahead of it or behind.
+    pub(crate) fn is_near(&self, other: u16, number: u16) -> bool
+        ensures { result ≡ is_near self.now.buffer.window other number }
+    {
+        let reach = self.reach();
+        number.wrapping_sub(other) <= reach || other.wrapping_sub(number) <= reach
     }
 
     /// How many packets wait.
@@ -187,6 +239,79 @@ impl JitterBuffer {
             h26x_reorder::Pushed::Late(count) => Ok(Pushed::Late(count)),
             h26x_reorder::Pushed::Twice => Ok(Pushed::Twice),
         }
+    }
+
+    /// Whether what waits stays within the limit with a packet that waited alone, or none waits.
+    fn has_room_for(&self, stray: &RtpPacket<'_>) -> bool
+        ensures { result ≡ has_room_for self.now stray.now }
+    {
+        match self.config.held_limit.checked_sub(self.bytes) {
+            Some(left) => self.is_empty() || stray.payload.len() <= left,
+            None => self.is_empty(),
+        }
+    }
+
+    /// Takes a packet that is more than a window ahead, near one that waited alone, and this one with
+    /// it, where there is room. The answer is whether it waits: not where more bytes wait than the
+    /// limit.
+    pub(crate) fn push_with(
+        &mut self,
+        now: u32,
+        stray: &RtpPacket<'_>,
+        packet: &RtpPacket<'_>,
+    ) -> Result<bool, AllocError>
+        requires { push_answer self.old.buffer packet.now.0 ≡ buffered.Held }
+        ensures answer { let full = is_full self.old (length packet.now.1.payload) in
+            IfOk result (λ waits. waits ≡ not full) }
+        ensures after { IfOk result (λ waits. self.new
+            ≡ (if waits then with_stray now self.old stray.now packet.now else self.old)) }
+        ensures wanted { OnErr result (is_full self.old (length packet.now.1.payload) ≡ false) }
+        ensures kept { OnErr result (self.new ≡ self.old) }
+    {
+        if self.bytes_with(packet.payload.len()).is_none() {
+            return Ok(false);
+        }
+        let has_room = self.has_room_for(stray);
+        if has_room && self.buffer.are_beyond(stray.sequence, packet.sequence) {
+            self.push_two(now, stray, packet)?;
+        } else if has_room && self.buffer.are_beyond(packet.sequence, stray.sequence) {
+            self.push_two(now, packet, stray)?;
+        } else {
+            let _ = self.push(now, packet)?;
+        }
+        Ok(true)
+    }
+
+    /// Takes two packets that come behind all others. Without memory for both all stays as it was.
+    fn push_two(
+        &mut self,
+        now: u32,
+        first: &RtpPacket<'_>,
+        second: &RtpPacket<'_>,
+    ) -> Result<(), AllocError>
+        requires { are_beyond self.old.buffer first.now.0 second.now.0 ≡ true }
+        ensures after { OnOk result (self.new ≡ with_two now self.old first.now second.now) }
+        ensures kept { OnErr result (self.new ≡ self.old) }
+    {
+        let Some(with_first) = self.bytes.checked_add(first.payload.len()) else {
+            return Err(AllocError);
+        };
+        let Some(bytes) = with_first.checked_add(second.payload.len()) else {
+            return Err(AllocError);
+        };
+        self.arrivals.reserve(2)?;
+        self.buffer.push_two(first, second)?;
+        self.bytes = bytes;
+        self.from = from_at(&self.arrivals, self.from, self.buffer.due());
+        self.arrivals.push_back_reserved(Arrival {
+            number: first.sequence,
+            at: now,
+        });
+        self.arrivals.push_back_reserved(Arrival {
+            number: second.sequence,
+            at: now,
+        });
+        Ok(())
     }
 
     /// Takes a packet that has memory of its own, and copies nothing of it. One that doesn't wait comes
@@ -333,7 +458,7 @@ impl JitterBuffer {
 
     /// The number from which on others may be missing: of a stream that begins that of the first
     /// packet that waits.
-    fn awaited(&self) -> Option<u16>
+    pub(crate) fn awaited(&self) -> Option<u16>
         ensures { result ≡ awaited self.now }
     {
         if self.has_begun {

@@ -1,14 +1,17 @@
 //! Laws of the definitions, each the contract of a function without a result.
 
-ghost use Rattle.std.specs.Prelude.{◌≤◌, ◌<◌, ◌^◌, ℕ, Bool, List, [], Option, length};
+ghost use Rattle.std.specs.Prelude.{◌≡◌, ◌≤◌, ◌<◌, ◌^◌, ◌==◌, true, ℕ, Bool, List, [], ◌∷◌, ◌++◌, Option, length};
+ghost use Rattle.std.specs.List.{list_any};
 ghost use Rattle.h26x_model.specs.Receive.DepacketizerState.{DepacketizerState};
 ghost use Rattle.h26x_reorder.specs.Rtp.{RtpBody};
 ghost use Rattle.h26x_reorder.specs.ReorderBuffer.{IsHeldInOrder};
 ghost use Rattle.h26x_access_units.specs.declared.config.AccessUnitConfig.{AccessUnitConfig};
 ghost use Rattle.h26x_access_units.specs.Missing.{missing_numbers, AreExactlyMissing};
 ghost use Rattle.h26x_access_units.specs.ReceivedAccessUnit.{ReceivedAccessUnitValue};
-ghost use Rattle.h26x_access_units.specs.Reception.{Reception, fresh_reception, begun_reception, restarted, ended_reception, reception_answer, after_reception, IsPushed, IsNext};
+ghost use Rattle.h26x_access_units.specs.Reception.{Reception, fresh_reception, begun_reception, restarted, with_settings, ended_reception, reception_answer, after_reception, IsPushed, IsNext};
 ghost use Rattle.h26x_access_units.specs.Decodable.{GivenUnit, IsCleanWhereDecodable, WereGiven, IsGivenBehind};
+ghost use Rattle.h26x_access_units.specs.Passed.{is_told_taken, AreNumbers, AreSoonBehind};
+ghost use Rattle.h26x_access_units.specs.LostPictures.{SentPicture, IsToldWithoutLoss};
 ghost use Rattle.h26x_access_units.specs.Limits.{IsWithinLimits, StaysWithinLimits};
 
 use crate::pushed::Pushed;
@@ -38,10 +41,20 @@ pub fn packets_taken_at_once_are_as_those_that_wait()
         IsNext later held new unit → IsNext later (after_reception now s p Pushed.Held) new unit }
 {}
 
+/// A number that comes again is told as one that was taken only where it was; and it is told so where
+/// all that were taken behind it, in their turn, are less than 1024 ahead of it.
+pub fn numbers_taken_are_known()
+    ensures only { (due number : ℕ) (numbers : List ℕ) → number < 2 ^ 16 → AreNumbers numbers →
+        is_told_taken due numbers number ≡ true → list_any (λ it. it == number) numbers ≡ true }
+    ensures all { (due number : ℕ) (later before : List ℕ) → number < 2 ^ 16 →
+        AreSoonBehind number later → is_told_taken due (later ++ number ∷ before) number ≡ true }
+{}
+
 /// An access unit is told clean exactly where a decoder can show it: there is one before it, or it is
 /// one, with which a decoder can begin, whose parameter sets came in it or before in order, or were
-/// given; behind each since it goes on, since nothing is missing before it, and it is unbroken or no
-/// picture refers to its own; and it is unbroken itself.
+/// given; behind each since it goes on, since nothing is missing before it, or no reference picture by
+/// frame numbers of H.264, and it is unbroken or no picture refers to its own; and it is unbroken
+/// itself.
 pub fn clean_access_units_can_be_decoded()
     ensures { (has_sets : Bool) (unit : GivenUnit) (before : List GivenUnit) →
         IsCleanWhereDecodable has_sets unit before }
@@ -61,6 +74,19 @@ pub fn what_is_given_out_clean_can_be_decoded()
     ensures finish { (s : Reception) (units : List GivenUnit) → WereGiven units s →
         WereGiven units (ended_reception s) }
     ensures restart { (s : Reception) → WereGiven [] (restarted s) }
+    ensures settings { (config : AccessUnitConfig) (s : Reception) (units : List GivenUnit) →
+        config.has_sets ≡ s.waiting.config.has_sets → WereGiven units s →
+        WereGiven units (with_settings config s) }
     ensures begin { (number : ℕ) (s : Reception) (units : List GivenUnit) → WereGiven units s →
         WereGiven units (begun_reception number s) }
+{}
+
+/// Where frame numbers of H.264 tell that no reference picture is among what is missing, none is. That
+/// is so of any pictures of a sender of frames without gaps between numbers, where each that is lost
+/// takes a packet at least, and one behind which numbers begin anew as many as `key`; where the last
+/// reference picture that came is none of these, or a keyframe; and where nothing that is lost brings
+/// another sequence parameter set.
+pub fn frame_numbers_tell_of_lost_pictures()
+    ensures { (most key last missing : ℕ) (pictures : List SentPicture) →
+        IsToldWithoutLoss most key last missing pictures }
 {}

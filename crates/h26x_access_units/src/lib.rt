@@ -4,19 +4,24 @@
 #![tactic(auto)]
 
 mod arrival;
+mod bits;
 mod cases;
 mod config;
 mod content;
 mod counts;
 mod decoder;
 mod due;
+mod frame_cases;
+mod frame_number;
 mod framing;
 mod jitter;
 pub mod laws;
 mod numbers;
+mod passed;
 mod pushed;
 mod receiver;
 mod unit;
+mod way;
 
 pub use arrival::Arrival;
 pub use config::AccessUnitConfig;

@@ -21,6 +21,8 @@ pub struct AccessUnitNumbers {
     pub continues: bool,
     /// Whether its first packet follows one that was taken, with no number missing between them.
     pub follows: bool,
+    /// Whether a packet was taken before it since the beginning: all is counted that is missing.
+    pub is_counted: bool,
 }
 
 impl AccessUnitNumbers {
@@ -32,6 +34,7 @@ impl AccessUnitNumbers {
         missing: 0,
         continues: false,
         follows: false,
+        is_counted: false,
     };
 }
 
@@ -45,6 +48,8 @@ pub(crate) struct NumbersSoFar {
     /// Whether what comes next may follow: a packet was taken, or the first number is told, since the
     /// beginning, or since an access unit ended behind missing numbers.
     pub has_begun: bool,
+    /// Whether a packet was taken since the beginning.
+    pub has_taken: bool,
     /// How many are missing since the last packet, before numbers that were skipped.
     pub skipped_gap: u32,
     /// How many were missing of access units that weren't given out, to be told with the next one that
@@ -97,6 +102,7 @@ impl NumbersSoFar {
             unit: None,
             marked: None,
             has_begun: false,
+            has_taken: false,
             skipped_gap: 0,
             carried: 0,
             ended: None,
@@ -128,6 +134,7 @@ impl NumbersSoFar {
                     missing: missing.saturating_add(self.carried),
                     continues: self.marked == Some(packet.timestamp),
                     follows: self.has_begun && missing == 0,
+                    is_counted: self.has_taken,
                 });
                 self.carried = 0;
             }
@@ -149,6 +156,7 @@ impl NumbersSoFar {
         self.skipped_gap = 0;
         self.go_on(packet, missing);
         self.has_begun = true;
+        self.has_taken = true;
         if packet.marker {
             self.marked = Some(packet.timestamp);
             self.ended_by_marker = self.unit;
@@ -232,6 +240,7 @@ impl NumbersSoFar {
             unit: None,
             marked: None,
             has_begun: false,
+            has_taken: false,
             skipped_gap: 0,
             carried: 0,
             ended: self.unit,

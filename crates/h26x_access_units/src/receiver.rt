@@ -1,14 +1,15 @@
 //! A receiver that takes packets as they come and gives out access units.
 
-ghost use Rattle.std.specs.Prelude.{◌≡◌, ◌^◌, ◌<◌, ◌≤◌, Option, true, false, not, ◌&&◌, [], None, Ok, Err, IfOk, OnOk, OnErr, IfErr, length};
+ghost use Rattle.std.specs.Prelude.{◌≡◌, ◌^◌, ◌<◌, ◌≤◌, Option, true, false, not, ◌&&◌, [], None, Some, Ok, Err, IfOk, OnOk, OnErr, IfErr, length};
 ghost use Rattle.std.specs.Option.{option_map};
 ghost use Rattle.h26x_reorder.specs.Rtp.{rtp_body};
-ghost use Rattle.h26x_reorder.specs.ReorderBuffer.{numbered_packet};
+ghost use Rattle.h26x_reorder.specs.ReorderBuffer.{numbered_packet, push_answer};
+ghost use Rattle.h26x_reorder.specs.declared.pushed.Pushed.TheVariants as buffered;
 ghost use Rattle.h26x_access_units.specs.Pushed.{IsNotPushedReason, is_kept, not_pushed_reason};
 ghost use Rattle.h26x_access_units.specs.JitterBuffer.{may_tell_first};
 ghost use Rattle.h26x_assembler.specs.Assembler.{assembly_at};
 ghost use Rattle.h26x_access_units.specs.ReceivedAccessUnit.{received_unit_value};
-ghost use Rattle.h26x_access_units.specs.Reception.{fresh_reception, begun_reception, is_behind_missing, ends_before, reception_answer, has_no_unit, has_bare, first_passed, without_bare, ended_if_anew, ended_if_over, restarted, unit_given, without_given, is_taken_at_once, is_idle, IsDrained, is_too_far, IsPushAnswer, IsPutAside, refused_reception, IsTakenAsDue, IsDueTakenOrNone, FollowsWhereDue, IsEndedOrFollows, IsStepOrNone, IsStepInPart, NoneIsDueUnlessEnded, IsPushedIfOk, ended_reception, IsDrainedInPart, GivesNext, nack_numbers, AreExactNacks, next_deadline};
+ghost use Rattle.h26x_access_units.specs.Reception.{fresh_reception, begun_reception, is_behind_missing, ends_before, reception_answer, has_no_unit, has_bare, first_passed, without_bare, ended_if_anew, ended_if_over, restarted, unit_given, without_given, is_taken_at_once, is_idle, IsDrained, after_reception, anew_of, way_of, IsPushAnswer, IsPutAside, refused_reception, IsTakenAsDue, IsDueTakenOrNone, FollowsWhereDue, IsEndedOrFollows, IsStepOrNone, IsStepInPart, NoneIsDueUnlessEnded, IsPushedIfOk, ended_reception, IsDrainedInPart, GivesNext, nack_numbers, AreExactNacks, next_deadline, settings, with_settings};
 ghost use Rattle.h26x_access_units.specs.Limits.{StaysWithinLimits};
 
 use crate::config::AccessUnitConfig;
@@ -18,14 +19,16 @@ use crate::due::{ends_before, is_behind_missing, is_want_of_memory, missing_befo
 use crate::framing::Framing;
 use crate::jitter::JitterBuffer;
 use crate::numbers::NumbersSoFar;
+use crate::passed::PassedNumbers;
 use crate::pushed::{NotPushed, NotPushedReason, Pushed};
 use crate::unit::{self, ReceivedAccessUnit};
+use crate::way::Way;
 use h26x_assembler::{AccessUnit, AccessUnitAssembler};
 use h26x_core::PacketError;
 use h26x_depacketizer::RunDepacketizer;
 use h26x_receiver::SequencedDepacketizer;
 use h26x_reorder::{HeldPacket, RtpPacket};
-use std::alloc::Global;
+use std::alloc::{AllocError, Global};
 
 /// Takes RTP packets as they come and gives out access units.
 #[derive(Debug, Drop)]
@@ -33,6 +36,7 @@ pub struct AccessUnitReceiver<D: RunDepacketizer> {
     waiting: JitterBuffer,
     stray: Option<HeldPacket>,
     is_anew: bool,
+    passed: PassedNumbers,
     alloc: Global,
     assembler: AccessUnitAssembler<D>,
     ended: Vec<AccessUnit>,
@@ -41,6 +45,30 @@ pub struct AccessUnitReceiver<D: RunDepacketizer> {
     decoder: DecoderState,
     counts: Counts,
 }
+
+/// What waits of a stream that begins anew with these two packets: both, whatever the limit.
+fn anew_with(
+    alloc: Global,
+    now: u32,
+    config: AccessUnitConfig,
+    stray: &RtpPacket<'_>,
+    packet: &RtpPacket<'_>,
+) -> Result<JitterBuffer, AllocError>
+    requires some { 0 < config.window }
+    requires half { config.window ≤ 2 ^ 14 }
+    ensures { IfOk result (λ waiting. waiting ≡ anew_of now config (Some stray.now) packet.now) }
+{
+    let unlimited = AccessUnitConfig {
+        held_limit: usize::MAX,
+        ..config
+    };
+    let mut waiting = JitterBuffer::new(alloc, unlimited);
+    let _ = waiting.push(now, stray)?;
+    let _ = waiting.push(now, packet)?;
+    waiting.set_held_limit(config.held_limit);
+    Ok(waiting)
+}
+
 /// What a receiver is to contracts.
 pub trait Receives: Drop {
     ghost use Rattle.h26x_access_units.specs.Reception.{Reception};
@@ -58,7 +86,7 @@ impl<D: RunDepacketizer> Receives for AccessUnitReceiver<D> {
     ghost use Rattle.h26x_assembler.specs.Assembler.{assembly_at};
     ghost use Rattle.h26x_access_units.specs.Reception.{reception};
 
-    ghost reception = { λ r. reception r.waiting (option_map numbered_packet r.stray) r.is_anew
+    ghost reception = { λ r. reception r.waiting (option_map numbered_packet r.stray) r.is_anew r.passed
         (assembly_at D.state r.assembler r.ended.items) r.framing r.numbers r.decoder r.counts
         r.assembler.packets.run_limit r.assembler.unit_limit };
 
@@ -81,6 +109,7 @@ impl<D: RunDepacketizer> AccessUnitReceiver<D> {
             waiting: JitterBuffer::new(alloc, config),
             stray: None,
             is_anew: false,
+            passed: PassedNumbers::none(),
             alloc,
             assembler: AccessUnitAssembler::new(alloc, packets, config.unit_limit),
             ended: Vec::new(alloc),
@@ -89,6 +118,31 @@ impl<D: RunDepacketizer> AccessUnitReceiver<D> {
             decoder: DecoderState::fresh(),
             counts: Counts::none(),
         }
+    }
+
+    /// The settings.
+    pub fn config(&self) -> AccessUnitConfig
+        ensures settings { let r = ⟦<Self as Receives>⟧.reception in result ≡ settings (r self.now) }
+        ensures some { 0 < result.window }
+        ensures half { result.window ≤ 2 ^ 14 }
+    {
+        AccessUnitConfig {
+            run_limit: self.assembler.packets.run_limit,
+            unit_limit: self.assembler.unit_limit,
+            ..self.waiting.config()
+        }
+    }
+
+    /// Has other settings from now on, for what waits and what is open too. It takes no memory.
+    pub fn set_config(&mut self, config: AccessUnitConfig)
+        requires some { 0 < config.window }
+        requires half { config.window ≤ 2 ^ 14 }
+        ensures { let r = ⟦<Self as Receives>⟧.reception in
+            r self.new ≡ with_settings config (r self.old) }
+    {
+        self.waiting.set_config(config);
+        self.assembler.packets.run_limit = config.run_limit;
+        self.assembler.unit_limit = config.unit_limit;
     }
 
     /// Takes a packet that came at this tick, and copies it if it is to wait: the one that is due is
@@ -130,12 +184,35 @@ impl<D: RunDepacketizer> AccessUnitReceiver<D> {
         ensures kept { let r = ⟦<Self as Receives>⟧.reception in
             OnErr result (r self.new ≡ r self.old) }
     {
-        if self.waiting.is_far(packet.sequence) {
-            return self.push_far(now, packet);
-        }
-        let pushed = self.waiting.push(now, packet)?;
+        let pushed = match self.way_of(packet.sequence) {
+            Way::Repeat => Pushed::Twice,
+            Way::Far => return self.push_far(now, packet),
+            Way::Ahead => return self.push_ahead(now, packet),
+            Way::Window => self.waiting.push(now, packet)?,
+        };
         self.counts.push(pushed);
         Ok(pushed)
+    }
+
+    /// What a number is to what the stream passed and to what waits.
+    fn way_of(&self, number: u16) -> Way
+        ensures way { let r = ⟦<Self as Receives>⟧.reception in result ≡ way_of (r self.now) number }
+        ensures held { let r = ⟦<Self as Receives>⟧.reception in result ≡ Way.Ahead →
+            push_answer (r self.now).waiting.buffer number ≡ buffered.Held }
+    {
+        let due = self.waiting.due();
+        if self.passed.has_passed(due, number) {
+            if self.passed.has_taken(due, number) {
+                return Way::Repeat;
+            }
+        } else if self.waiting.is_far(number) {
+            return Way::Far;
+        }
+        if self.waiting.is_ahead(number) {
+            Way::Ahead
+        } else {
+            Way::Window
+        }
     }
 
     /// Whether a packet is taken at once.
@@ -182,6 +259,7 @@ impl<D: RunDepacketizer> AccessUnitReceiver<D> {
             return Err(PacketError::OutOfMemory);
         }
         self.waiting.pass(sequence);
+        self.passed.take(sequence, sequence);
         Ok(())
     }
 
@@ -212,7 +290,7 @@ impl<D: RunDepacketizer> AccessUnitReceiver<D> {
     /// Takes a packet that is too far from the one that is due.
     fn push_far(&mut self, now: u32, packet: &RtpPacket<'_>) -> Result<Pushed, PacketError>
         requires { let r = ⟦<Self as Receives>⟧.reception in
-            is_too_far (r self.old) packet.now.0 ≡ true }
+            way_of (r self.old) packet.now.0 ≡ Way.Far }
         ensures answer { let r = ⟦<Self as Receives>⟧.reception in
             IsPushAnswer (r self.old) packet.now result }
         ensures after { let r = ⟦<Self as Receives>⟧.reception in
@@ -225,35 +303,64 @@ impl<D: RunDepacketizer> AccessUnitReceiver<D> {
     {
         match &self.stray {
             Some(stray) if packet.sequence == stray.sequence.wrapping_add(1) => {
-                // (both wait, whatever the limit)
-                let config = self.waiting.config();
-                let mut waiting = JitterBuffer::new(
-                    self.alloc,
-                    AccessUnitConfig {
-                        held_limit: usize::MAX,
-                        ..config
-                    },
-                );
-                let _ = waiting.push(now, &stray.packet())?;
-                let _ = waiting.push(now, packet)?;
-                waiting.set_held_limit(config.held_limit);
+                let stray = stray.packet();
+                let waiting = anew_with(self.alloc, now, self.waiting.config(), &stray, packet)?;
                 self.counts.push(Pushed::Anew);
                 self.counts.drop(self.waiting.len());
                 self.waiting = waiting;
                 self.stray = None;
                 self.is_anew = true;
+                self.passed = PassedNumbers::none();
                 Ok(Pushed::Anew)
             }
-            _ => {
-                self.stray = Some(HeldPacket::new(
-                    packet.sequence,
-                    packet.timestamp,
-                    packet.marker,
-                    Vec::from_slice(self.alloc, packet.payload)?,
-                ));
-                self.counts.push(Pushed::Stray);
-                Ok(Pushed::Stray)
+            _ => self.put_alone(packet),
+        }
+    }
+
+    /// Has a packet wait alone.
+    fn put_alone(&mut self, packet: &RtpPacket<'_>) -> Result<Pushed, PacketError>
+        ensures answer { IfOk result (λ answer. answer ≡ Pushed.Stray) }
+        ensures after { let r = ⟦<Self as Receives>⟧.reception in OnOk result
+            (r self.new ≡ after_reception 0 (r self.old) packet.now Pushed.Stray) }
+        ensures memory { OnErr result (result ≡ Err PacketError.OutOfMemory) }
+        ensures kept { let r = ⟦<Self as Receives>⟧.reception in
+            OnErr result (r self.new ≡ r self.old) }
+    {
+        self.stray = Some(HeldPacket::new(
+            packet.sequence,
+            packet.timestamp,
+            packet.marker,
+            Vec::from_slice(self.alloc, packet.payload)?,
+        ));
+        self.counts.push(Pushed::Stray);
+        Ok(Pushed::Stray)
+    }
+
+    /// Takes a packet that is more than a window ahead.
+    fn push_ahead(&mut self, now: u32, packet: &RtpPacket<'_>) -> Result<Pushed, PacketError>
+        requires ahead { let r = ⟦<Self as Receives>⟧.reception in
+            way_of (r self.old) packet.now.0 ≡ Way.Ahead }
+        requires held { let r = ⟦<Self as Receives>⟧.reception in
+            push_answer (r self.old).waiting.buffer packet.now.0 ≡ buffered.Held }
+        ensures answer { let r = ⟦<Self as Receives>⟧.reception in
+            IsPushAnswer (r self.old) packet.now result }
+        ensures after { let r = ⟦<Self as Receives>⟧.reception in
+            IsPutAside now (r self.old) packet.now result (r self.new) }
+        ensures memory { OnErr result (result ≡ Err PacketError.OutOfMemory) }
+        ensures wanted { let r = ⟦<Self as Receives>⟧.reception in
+            OnErr result (is_kept (reception_answer (r self.old) packet.now) ≡ true) }
+        ensures kept { let r = ⟦<Self as Receives>⟧.reception in
+            OnErr result (r self.new ≡ r self.old) }
+    {
+        match &self.stray {
+            Some(stray) if self.waiting.is_near(stray.sequence, packet.sequence) => {
+                if !self.waiting.push_with(now, &stray.packet(), packet)? {
+                    return Ok(Pushed::Full);
+                }
+                self.stray = None;
+                Ok(Pushed::Jumped)
             }
+            _ => self.put_alone(packet),
         }
     }
 
@@ -281,15 +388,66 @@ impl<D: RunDepacketizer> AccessUnitReceiver<D> {
         if self.takes_at_once(&packet.packet()) {
             return self.take_held_at_once(packet);
         }
-        if self.waiting.is_far(packet.sequence) {
-            return match self.push_far(now, &packet.packet()) {
-                Ok(pushed) => Ok(pushed),
-                Err(_) => Err(NotPushed {
-                    packet,
-                    reason: NotPushedReason::OutOfMemory,
-                }),
-            };
+        self.push_held_aside(now, packet)
+    }
+
+    /// Takes a packet that has memory of its own and isn't taken at once.
+    fn push_held_aside(&mut self, now: u32, packet: HeldPacket) -> Result<Pushed, NotPushed>
+        ensures answer { let r = ⟦<Self as Receives>⟧.reception in
+            IsPushAnswer (r self.old) (numbered_packet packet) result }
+        ensures after { let r = ⟦<Self as Receives>⟧.reception in
+            IsPutAside now (r self.old) (numbered_packet packet) result (r self.new) }
+        ensures back { IfErr result (λ it. it.packet ≡ packet) }
+        ensures reason { let r = ⟦<Self as Receives>⟧.reception in
+            IfErr result (λ it. IsNotPushedReason
+            (reception_answer (r self.old) (numbered_packet packet)) it.reason) }
+        ensures exact { let r = ⟦<Self as Receives>⟧.reception in
+            IfErr result (λ it. it.reason ≡ not_pushed_reason
+            (reception_answer (r self.old) (numbered_packet packet))) }
+        ensures kept { let r = ⟦<Self as Receives>⟧.reception in
+            IfErr result (λ it. r self.new ≡ refused_reception (r self.old) it.reason) }
+    {
+        let pushed = match self.way_of(packet.sequence) {
+            Way::Repeat => return Err(self.refuse(packet, NotPushedReason::Twice)),
+            Way::Far => self.push_far(now, &packet.packet()),
+            Way::Ahead => self.push_ahead(now, &packet.packet()),
+            Way::Window => return self.push_within(now, packet),
+        };
+        match pushed {
+            Ok(Pushed::Full) => Err(self.refuse(packet, NotPushedReason::Full)),
+            Ok(pushed) => Ok(pushed),
+            Err(_) => Err(self.refuse(packet, NotPushedReason::OutOfMemory)),
         }
+    }
+
+    /// Counts a packet that comes back with this reason.
+    fn refuse(&mut self, packet: HeldPacket, reason: NotPushedReason) -> NotPushed
+        ensures back { result ≡ record { packet = packet; reason = reason } }
+        ensures counts { let r = ⟦<Self as Receives>⟧.reception in
+            r self.new ≡ refused_reception (r self.old) reason }
+    {
+        self.counts.not_pushed(reason);
+        NotPushed { packet, reason }
+    }
+
+    /// Takes a packet that has memory of its own and is within the window, or late.
+    fn push_within(&mut self, now: u32, packet: HeldPacket) -> Result<Pushed, NotPushed>
+        requires { let r = ⟦<Self as Receives>⟧.reception in
+            way_of (r self.old) packet.sequence ≡ Way.Window }
+        ensures answer { let r = ⟦<Self as Receives>⟧.reception in
+            IsPushAnswer (r self.old) (numbered_packet packet) result }
+        ensures after { let r = ⟦<Self as Receives>⟧.reception in
+            IsPutAside now (r self.old) (numbered_packet packet) result (r self.new) }
+        ensures back { IfErr result (λ it. it.packet ≡ packet) }
+        ensures reason { let r = ⟦<Self as Receives>⟧.reception in
+            IfErr result (λ it. IsNotPushedReason
+            (reception_answer (r self.old) (numbered_packet packet)) it.reason) }
+        ensures exact { let r = ⟦<Self as Receives>⟧.reception in
+            IfErr result (λ it. it.reason ≡ not_pushed_reason
+            (reception_answer (r self.old) (numbered_packet packet))) }
+        ensures kept { let r = ⟦<Self as Receives>⟧.reception in
+            IfErr result (λ it. r self.new ≡ refused_reception (r self.old) it.reason) }
+    {
         match self.waiting.push_held(now, packet) {
             Ok(()) => Ok(Pushed::Held),
             Err(not_pushed) => {
@@ -362,6 +520,7 @@ impl<D: RunDepacketizer> AccessUnitReceiver<D> {
             Some(held) => held.packet(),
             None => return Ok(false),
         };
+        let number = packet.sequence;
         let received = take_begun(
             &mut self.assembler,
             &mut self.ended,
@@ -373,6 +532,8 @@ impl<D: RunDepacketizer> AccessUnitReceiver<D> {
         if is_want_of_memory(&received) {
             return Err(PacketError::OutOfMemory);
         }
+        self.passed
+            .take(self.waiting.awaited().unwrap_or(0), number);
         self.waiting.drop_first();
         Ok(true)
     }
@@ -492,6 +653,7 @@ impl<D: RunDepacketizer> AccessUnitReceiver<D> {
             self.numbers.finish();
             self.waiting.restart();
             self.stray = None;
+            self.passed = PassedNumbers::none();
         }
         Ok(())
     }
@@ -599,6 +761,7 @@ impl<D: RunDepacketizer> AccessUnitReceiver<D> {
         self.waiting.restart();
         self.stray = None;
         self.is_anew = false;
+        self.passed = PassedNumbers::none();
         self.assembler.restart();
         self.ended.clear();
         self.framing = Framing::fresh();

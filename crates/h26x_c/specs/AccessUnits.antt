@@ -19,6 +19,7 @@ abbrev pub units_config : Config → AccessUnitConfig
 units_config config = record {
   window = config.window;
   far = config.far_away;
+  far_behind = config.far_behind;
   max_wait = config.max_wait;
   begin_wait = config.begin_wait;
   held_limit = config.held_limit;

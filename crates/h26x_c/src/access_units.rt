@@ -5,8 +5,8 @@ ghost use Rattle.h26x_model.specs.Where.{Where};
 ghost use Rattle.h26x_codec.specs.declared.codec.Codec.{Codec};
 ghost use Rattle.h26x_reorder.specs.Rtp.{rtp_body};
 ghost use Rattle.h26x_endpoint.specs.EndpointStates.{is_access_units, endpoint_units, endpoint_deadline, endpoint_missing, place_units};
-ghost use Rattle.h26x_handles.specs.UnitsState.{UnitsState, is_begun_in_time, units_begun, units_finished, units_restarted, IsOutOfMemory};
-ghost use Rattle.h26x_codes.specs.Codes.{ok, out_of_memory, wrong_end};
+ghost use Rattle.h26x_handles.specs.UnitsState.{UnitsState, is_begun_in_time, units_begun, units_finished, units_restarted, is_window, units_with_settings, IsOutOfMemory};
+ghost use Rattle.h26x_codes.specs.Codes.{ok, out_of_memory, out_of_range, wrong_end};
 ghost use Rattle.h26x_codes.specs.Copies.{with_first};
 ghost use Rattle.h26x_c.specs.AccessUnits.{config_codec_or_code, fresh_units_with, units_config, counts_told, TellsPush, IsPushedTo, IsNextOf};
 ghost use Rattle.h26x_c.specs.Endpoints.{Makes};
@@ -15,7 +15,7 @@ use crate::const_handle::ConstHandle;
 use crate::handle::Handle;
 use crate::place::{Place, put};
 use h26x_access_units::{self, AccessUnitConfig};
-use h26x_codes::code::{OK, OUT_OF_MEMORY, WRONG_END};
+use h26x_codes::code::{OK, OUT_OF_MEMORY, OUT_OF_RANGE, WRONG_END};
 use h26x_endpoint::endpoint::Endpoint;
 use h26x_handles::access_units::{
     AccessUnitEndpoint, GivesUnits, UnitTold, code_of_next, numbers_of_push, units_codec_wanted,
@@ -32,6 +32,7 @@ pub struct Config {
     pub begin_wait: u32,
     pub window: u16,
     pub far_away: u16,
+    pub far_behind: u16,
     pub numbers: bool,
     pub avc: bool,
     pub has_sets: bool,
@@ -68,6 +69,7 @@ fn settings(config: &Config) -> AccessUnitConfig
     AccessUnitConfig {
         window: config.window,
         far: config.far_away,
+        far_behind: config.far_behind,
         max_wait: config.max_wait,
         begin_wait: config.begin_wait,
         held_limit: config.held_limit,
@@ -130,6 +132,25 @@ pub extern "C" fn h26x_access_units_new(alloc: Global, config: &Config, made: &m
 #[unsafe(no_mangle)]
 pub extern "C" fn h26x_access_units_free(u: Handle) {
     drop(u.into_box());
+}
+
+/// Has other settings from now on, but for its codec, and how packets and units are written.
+#[unsafe(no_mangle)]
+pub extern "C" fn h26x_access_units_set_config(u: &mut Handle, config: &Config) -> u32
+    ensures wrong { is_access_units u.old.value ≡ false → (result ≡ wrong_end)
+        × (u.new.value ≡ u.old.value) }
+    ensures answer { is_access_units u.old.value ≡ true →
+        result ≡ (if is_window config.now.window then ok else out_of_range) }
+    ensures set { Where (endpoint_units u.old.value) (λ it. endpoint_units u.new.value
+        ≡ Some (units_with_settings (units_config config.now) it)) }
+{
+    match u.get_mut() {
+        Endpoint::AccessUnits(it) => match it.set_config(settings(config)) {
+            true => OK,
+            false => OUT_OF_RANGE,
+        },
+        _ => WRONG_END,
+    }
 }
 
 /// Takes a packet that came at this tick.

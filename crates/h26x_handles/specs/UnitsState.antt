@@ -1,6 +1,6 @@
 -- A receiver of access units behind a handle, and the access unit that had no room where it was to be
 -- written (ours).
-use Rattle.std.specs.Prelude.{◌≡◌, ◌⊎◌, ℕ, ◌^◌, ◌==◌, ◌||◌, nat_le, nat_lt, Bool, true, if◌then◌else◌, List, length, Option, Some, None, Result, Ok, Err, MatchOption}
+use Rattle.std.specs.Prelude.{◌≡◌, ◌⊎◌, ℕ, ◌^◌, ◌==◌, ◌||◌, ◌&&◌, nat_le, nat_lt, Bool, true, if◌then◌else◌, List, length, Option, Some, None, Result, Ok, Err, MatchOption}
 use Rattle.h26x_access_units.specs.declared.config.AccessUnitConfig.{AccessUnitConfig}
 use Rattle.h26x_access_units.specs.declared.pushed.Pushed.{Pushed}
 use Rattle.h26x_access_units.specs.declared.pushed.Pushed.TheVariants as pushes
@@ -8,7 +8,7 @@ use Rattle.h26x_access_units.specs.Arrival.{deadline_of}
 use Rattle.h26x_access_units.specs.JitterBuffer.{may_tell_first, longest_wait, awaited}
 use Rattle.h26x_access_units.specs.Missing.{missing_numbers}
 use Rattle.h26x_access_units.specs.ReceivedAccessUnit.{ReceivedAccessUnitValue}
-use Rattle.h26x_access_units.specs.Reception.{Reception, fresh_reception, begun_reception, reception_answer, restarted, IsPushed, IsNext, IsDrainedInPart}
+use Rattle.h26x_access_units.specs.Reception.{Reception, fresh_reception, begun_reception, reception_answer, restarted, with_settings, IsPushed, IsNext, IsDrainedInPart}
 use Rattle.h26x_codec.specs.Codec.{codec_format}
 use Rattle.h26x_codec.specs.declared.codec.Codec.{Codec}
 use Rattle.h26x_reorder.specs.Rtp.{RtpBody}
@@ -37,6 +37,10 @@ units_codec_or_code number has_donl window = elim (codec_or_code number has_donl
   | Ok codec ↦ if window == 0 || nat_lt (2 ^ 14) window then Err out_of_range else Ok codec
 ]
 
+-- whether a window is of 1 to 2^14 places
+abbrev pub is_window : ℕ → Bool
+is_window window = nat_lt 0 window && nat_le window (2 ^ 14)
+
 -- before any packet came
 abbrev pub fresh_access_units : Codec → Bool → Bool → AccessUnitConfig → UnitsState
 fresh_access_units codec has_donl is_avc config = record {
@@ -53,6 +57,11 @@ fresh_access_units codec has_donl is_avc config = record {
 abbrev pub units_with_reception : Reception → UnitsState → UnitsState
 units_with_reception reception it = record it { reception = reception }
 
+-- the same with other settings from now on, where the window is one
+abbrev pub units_with_settings : AccessUnitConfig → UnitsState → UnitsState
+units_with_settings config it =
+    if is_window config.window then units_with_reception (with_settings config it.reception) it else it
+
 -- what is answered for a packet
 abbrev pub units_push_answer : UnitsState → ℕ × RtpBody → Pushed
 units_push_answer it p = reception_answer it.reception p
@@ -62,7 +71,7 @@ pub record IsUnitsPushed (now : ℕ) (p : ℕ × RtpBody) (it new : UnitsState) 
   pub pushed : IsPushed now it.reception p (units_push_answer it p) new.reception
   pub stands : new ≡ record it { reception = new.reception }
 
--- the numbers of what became of a packet: which of the six it is, and how far it is behind
+-- the numbers of what became of a packet: which of the seven it is, and how far it is behind
 abbrev pub pushed_numbers : Pushed → ℕ × ℕ
 pushed_numbers pushes.Held = (0, 0)
 pushed_numbers (pushes.Late behind) = (1, behind)
@@ -70,6 +79,7 @@ pushed_numbers pushes.Twice = (2, 0)
 pushed_numbers pushes.Full = (3, 0)
 pushed_numbers pushes.Stray = (4, 0)
 pushed_numbers pushes.Anew = (5, 0)
+pushed_numbers pushes.Jumped = (6, 0)
 
 -- what is told of an access unit
 abbrev pub unit_told : ReceivedAccessUnitValue → UnitTold

@@ -4,7 +4,7 @@
 ghost use Rattle.std.specs.Prelude.{◌≡◌, ◌<◌, ◌≤◌, ◌^◌, [], false, None, Err, IfOk, OnErr, length};
 ghost use Rattle.h26x_access_units.specs.ReceivedAccessUnit.{received_unit_value};
 ghost use Rattle.h26x_reorder.specs.Rtp.{rtp_body};
-ghost use Rattle.h26x_handles.specs.UnitsState.{units_codec_or_code, fresh_access_units, pushed_numbers, unit_told, next_answer, buffer_with_unit, unit_without_room, units_push_answer, IsUnitsPushed, IsUnitGiven, IsOutOfMemory, next_numbers, units_deadline, units_missing, is_begun_in_time, units_begun, units_finished, units_restarted};
+ghost use Rattle.h26x_handles.specs.UnitsState.{units_codec_or_code, fresh_access_units, pushed_numbers, unit_told, next_answer, buffer_with_unit, unit_without_room, units_push_answer, IsUnitsPushed, IsUnitGiven, IsOutOfMemory, next_numbers, units_deadline, units_missing, is_begun_in_time, units_begun, units_finished, units_restarted, is_window, units_with_settings};
 ghost use Rattle.h26x_codes.specs.Copies.{with_first};
 
 use h26x_access_units::{
@@ -55,7 +55,7 @@ pub fn units_codec_wanted(number: u32, has_donl: bool, window: u16) -> Result<Co
     Ok(codec)
 }
 
-/// The numbers of what became of a packet: which of the six it is, and how far it is behind.
+/// The numbers of what became of a packet: which of the seven it is, and how far it is behind.
 pub fn numbers_of_push(pushed: Pushed) -> (u32, u16)
     ensures { result ≡ pushed_numbers pushed }
 {
@@ -66,6 +66,7 @@ pub fn numbers_of_push(pushed: Pushed) -> (u32, u16)
         Pushed::Full => (3, 0),
         Pushed::Stray => (4, 0),
         Pushed::Anew => (5, 0),
+        Pushed::Jumped => (6, 0),
     }
 }
 
@@ -161,6 +162,20 @@ impl AccessUnitEndpoint {
             receiver: AccessUnitReceiver::new(alloc, depacketizer, config),
             left: None,
         }
+    }
+
+    /// Has other settings from now on; the answer is whether the window is in range, where nothing
+    /// changes if not.
+    pub fn set_config(&mut self, config: AccessUnitConfig) -> bool
+        ensures told { result ≡ is_window config.window }
+        ensures after { units_state_of self.new
+            ≡ units_with_settings config (units_state_of self.old) }
+    {
+        if config.window == 0 || config.window > 1 << 14 {
+            return false;
+        }
+        self.receiver.set_config(config);
+        true
     }
 
     /// Takes a packet that came at this tick, and copies it where it waits. Without memory all stays as

@@ -1,5 +1,6 @@
 pub mod ReorderLemmas
 pub mod HeldLemmas
+pub mod BeyondLemmas
 pub mod BufferLemmas
 pub mod StepLemmas
 pub mod NumberLemmas

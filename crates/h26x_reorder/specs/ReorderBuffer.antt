@@ -1,5 +1,5 @@
 -- A buffer of packets that came before earlier ones, by their sequence numbers (RFC 3550, 5.1; ours).
-use Rattle.std.specs.Prelude.{◌≡◌, ℕ, ◌+◌, ◌-◌, ◌%◌, ◌^◌, ◌<◌, ◌≤◌, ◌==◌, nat_lt, nat_le, Bool, ◌||◌, ◌&&◌, if◌then◌else◌, List, [], ◌∷◌, ◌++◌, length, map, Option, Some, None}
+use Rattle.std.specs.Prelude.{◌≡◌, ℕ, ◌+◌, ◌-◌, ◌%◌, ◌^◌, ◌<◌, ◌≤◌, ◌==◌, nat_lt, nat_le, Bool, ◌||◌, ◌&&◌, if◌then◌else◌, List, [], ◌∷◌, ◌++◌, length, map, Option, Some, None, slice_index_or, true, false}
 use Rattle.std.specs.List.{list_any}
 use Rattle.h26x_core.specs.Sequence.{next_sequence_number, distance_ahead, distance_behind, is_expected, is_late}
 use Rattle.h26x_reorder.specs.Reordering.{in_order, IsReordered}
@@ -39,6 +39,10 @@ begun_at number b = elim b.due [
   | None ↦ buffer_state b.window (Some number) b.held
   | Some due ↦ b
 ]
+
+-- the same with this window
+abbrev pub with_window : {A : Type 0} → ℕ → BufferState A → BufferState A
+with_window window b = buffer_state window b.due b.held
 
 -- the number that is due when a packet comes: where it is the first, the first of the window that ends
 -- with it, since those sent before it may still come
@@ -80,6 +84,31 @@ after_push b p =
 -- whether a packet with this number needn't be held: none is, and it is the one that is due
 abbrev pub goes_straight : {A : Type 0} → BufferState A → ℕ → Bool
 goes_straight b number = (length b.held == 0) && is_expected b.due number
+
+-- the number of the last packet that is held, or the one that is due where none is
+abbrev pub newest_of : ℕ → List (ℕ × RtpBody) → ℕ
+newest_of due held =
+    if length held == 0 then due
+    else (slice_index_or held (length held - 1) (0, rtp_body 0 false [])).0
+
+-- whether a number is farther ahead of the one that is due than another, and not late
+abbrev pub is_ahead_of : ℕ → ℕ → ℕ → Bool
+is_ahead_of due other number = nat_lt (distance_ahead due other) (distance_ahead due number)
+    && nat_lt (distance_ahead due number) (2 ^ 15)
+
+-- whether a number is ahead of all that are held, and not late
+abbrev pub is_beyond : BufferState RtpBody → ℕ → Bool
+is_beyond b number = elim b.due [
+  | None ↦ false
+  | Some due ↦ is_ahead_of due (newest_of due b.held) number
+]
+
+-- whether two numbers are, and the second is ahead of the first
+abbrev pub are_beyond : BufferState RtpBody → ℕ → ℕ → Bool
+are_beyond b first second = elim b.due [
+  | None ↦ false
+  | Some due ↦ is_ahead_of due (newest_of due b.held) first && is_ahead_of due first second
+]
 
 -- the number of the last of packets
 abbrev pub last_number : {A : Type 0} → ℕ → List (ℕ × A) → ℕ

@@ -3,7 +3,7 @@
 ghost use Rattle.std.specs.Prelude.{◌≡◌, ◌+◌, ◌^◌, ◌<◌, ◌≤◌, ◌==◌, if◌then◌else◌, true, false, ℕ, Ok, None, IfOk, IfErr, OnOk, OnErr, is_some, length, slice_get, slice_index_or};
 ghost use Rattle.std.specs.Option.{option_map};
 ghost use Rattle.h26x_reorder.specs.Rtp.{RtpBody};
-ghost use Rattle.h26x_reorder.specs.ReorderBuffer.{BufferState, numbered_packet, fresh_buffer, begun_at, goes_straight, push_answer, after_push, next_packet, without_first};
+ghost use Rattle.h26x_reorder.specs.ReorderBuffer.{BufferState, numbered_packet, fresh_buffer, begun_at, with_window, goes_straight, newest_of, is_beyond, are_beyond, push_answer, after_push, next_packet, without_first};
 ghost use Rattle.h26x_reorder.specs.ReorderBuffer as spec;
 
 use crate::order::NumberOrder;
@@ -78,6 +78,19 @@ impl HeldPacket {
             payload: &self.payload,
         }
     }
+}
+
+/// A copy of a packet, in memory that is kept, where there is some.
+#[inline]
+fn copy_of(spare: &mut SparePayloads, packet: &RtpPacket<'_>) -> Result<HeldPacket, AllocError>
+    ensures { IfOk result (λ held. numbered_packet held ≡ packet.now) }
+{
+    Ok(HeldPacket::new(
+        packet.sequence,
+        packet.timestamp,
+        packet.marker,
+        spare.copy(packet.payload)?,
+    ))
 }
 
 /// Why a packet that was given to a buffer by value isn't held.
@@ -166,6 +179,15 @@ impl ReorderBuffer {
             held: NumberOrder::new(alloc, window),
             spare: SparePayloads::none(alloc),
         }
+    }
+
+    /// Has a window of so many packets from now on, 1 to 2^14.
+    pub fn set_window(&mut self, window: u16)
+        requires some { 0 < window }
+        requires half { window ≤ 2 ^ 14 }
+        ensures { self.new ≡ with_window window self.old }
+    {
+        self.held.set_window(window);
     }
 
     /// How many packets it holds.
@@ -266,11 +288,9 @@ impl ReorderBuffer {
         ensures kept { OnErr result (self.new ≡ self.old) }
         ensures one_more { length self.new.held ≤ length self.old.held + 1 }
     {
-        let sequence = packet.sequence;
-        match self.held.place_of(sequence) {
+        match self.held.place_of(packet.sequence) {
             Ok((due, place)) => {
-                let payload = self.spare.copy(packet.payload)?;
-                let held = HeldPacket::new(sequence, packet.timestamp, packet.marker, payload);
+                let held = copy_of(&mut self.spare, packet)?;
                 self.held.put(due, place, held)?;
                 Ok(Pushed::Held)
             }
@@ -302,6 +322,50 @@ impl ReorderBuffer {
                 reason: reason_of(answer),
             }),
         }
+    }
+
+    /// The number of the last of the packets held, or the one that is due where none is.
+    pub fn newest(&self, due: u16) -> u16
+        ensures { result ≡ newest_of due self.now.held }
+    {
+        self.held.newest(due)
+    }
+
+    /// Whether a number is ahead of all packets that are held, and not late. None is before a packet
+    /// came.
+    pub fn is_beyond(&self, number: u16) -> bool
+        ensures beyond { result ≡ is_beyond self.now number }
+        ensures held { result ≡ true → push_answer self.now number ≡ Pushed.Held }
+    {
+        self.held.is_beyond(number)
+    }
+
+    /// Whether two numbers, the second ahead of the first, are ahead of all packets that are held, and
+    /// not late.
+    pub fn are_beyond(&self, first: u16, second: u16) -> bool
+        ensures { result ≡ are_beyond self.now first second }
+    {
+        self.held.are_beyond(first, second)
+    }
+
+    /// Takes two packets that come behind all others, and copies both. Without memory for both the
+    /// buffer stays as it was.
+    pub fn push_two(
+        &mut self,
+        first: &RtpPacket<'_>,
+        second: &RtpPacket<'_>,
+    ) -> Result<(), AllocError>
+        requires { are_beyond self.old first.now.0 second.now.0 ≡ true }
+        ensures after { OnOk result
+            (self.new ≡ after_push (after_push self.old first.now) second.now) }
+        ensures first { OnOk result (push_answer self.old first.now.0 ≡ Pushed.Held) }
+        ensures second { OnOk result
+            (push_answer (after_push self.old first.now) second.now.0 ≡ Pushed.Held) }
+        ensures kept { OnErr result (self.new ≡ self.old) }
+    {
+        let first = copy_of(&mut self.spare, first)?;
+        let second = copy_of(&mut self.spare, second)?;
+        self.held.put_two(first, second)
     }
 
     /// The first of the packets held, if it may go: the one that is due, or one that the window has

@@ -5,13 +5,13 @@ ghost use Rattle.std.specs.Option.{option_map};
 ghost use Rattle.h26x_core.specs.Sequence.{distance_ahead};
 ghost use Rattle.h26x_reorder.specs.Rtp.{RtpBody};
 ghost use Rattle.h26x_reorder.specs.NumberOrder.{IsPlaceOf, IsSearchResult};
-ghost use Rattle.h26x_reorder.specs.ReorderBuffer.{fresh_buffer, begun_at, goes_straight, push_answer, after_push, next_packet, without_first, AreHeldInOrder};
+ghost use Rattle.h26x_reorder.specs.ReorderBuffer.{fresh_buffer, begun_at, with_window, goes_straight, newest_of, is_beyond, are_beyond, push_answer, after_push, next_packet, without_first, AreHeldInOrder};
 
 use crate::numbered::Numbered;
 use crate::parted::Parted;
 use crate::pushed::Pushed;
 use h26x_core::is_next;
-use std::alloc::{AllocFailed, Global};
+use std::alloc::{AllocError, AllocFailed, Global};
 use std::marker::Model;
 
 /// How far ahead of the number that is due a number is taken as behind it: half of the circle (RFC
@@ -50,6 +50,15 @@ impl<T: Numbered> NumberOrder<T> {
             due: None,
             held: Parted::new(alloc),
         }
+    }
+
+    /// Has another window from now on.
+    pub(crate) fn set_window(&mut self, window: u16)
+        requires some { 0 < window }
+        requires half { window ≤ 2 ^ 14 }
+        ensures { self.new ≡ with_window window self.old }
+    {
+        self.window = window;
     }
 
     /// How many packets it holds.
@@ -178,6 +187,59 @@ impl<T: Numbered> NumberOrder<T> {
     {
         self.held.insert(place, packet)?;
         self.due = Some(due);
+        Ok(())
+    }
+
+    /// The number of the last packet, or the one that is due where there is none.
+    pub(crate) fn newest(&self, due: u16) -> u16
+        ensures { result ≡ newest_of due self.now.held }
+    {
+        match self.len() {
+            0 => due,
+            len => self.number_at(len - 1),
+        }
+    }
+
+    /// Whether a number is ahead of all packets, and not late.
+    pub(crate) fn is_beyond(&self, number: u16) -> bool
+        ensures beyond { result ≡ is_beyond self.now number }
+        ensures held { result ≡ true → push_answer self.now number ≡ Pushed.Held }
+    {
+        match self.due {
+            Some(due) => {
+                let ahead = number.wrapping_sub(due);
+                self.newest(due).wrapping_sub(due) < ahead && ahead < HALF
+            }
+            None => false,
+        }
+    }
+
+    /// Whether two numbers, the second ahead of the first, are ahead of all packets, and not late.
+    pub(crate) fn are_beyond(&self, first: u16, second: u16) -> bool
+        ensures { result ≡ are_beyond self.now first second }
+    {
+        match self.due {
+            Some(due) if self.is_beyond(first) => {
+                let ahead = second.wrapping_sub(due);
+                first.wrapping_sub(due) < ahead && ahead < HALF
+            }
+            _ => false,
+        }
+    }
+
+    /// Puts two packets behind all others. Without memory for both all stays as it was.
+    pub(crate) fn put_two(&mut self, first: T, second: T) -> Result<(), AllocError>
+        requires beyond { are_beyond self.old (T.numbered first).0 (T.numbered second).0 ≡ true }
+        requires first_small { (T.numbered first).0 < 2 ^ 16 }
+        requires second_small { (T.numbered second).0 < 2 ^ 16 }
+        ensures after { OnOk result
+            (self.new ≡ after_push (after_push self.old (T.numbered first)) (T.numbered second)) }
+        ensures first { OnOk result (push_answer self.old (T.numbered first).0 ≡ Pushed.Held) }
+        ensures second { OnOk result
+            (push_answer (after_push self.old (T.numbered first)) (T.numbered second).0 ≡ Pushed.Held) }
+        ensures kept { OnErr result (self.new ≡ self.old) }
+    {
+        self.held.push_two(first, second)?;
         Ok(())
     }
 

@@ -22,6 +22,7 @@ fn pushed(it: Result<Pushed, PacketError>) -> (u32, u32, u16) {
         Ok(Pushed::Full) => (0, 3, 0),
         Ok(Pushed::Stray) => (0, 4, 0),
         Ok(Pushed::Anew) => (0, 5, 0),
+        Ok(Pushed::Jumped) => (0, 6, 0),
         Err(error) => (code(error).0, 0, 0),
     }
 }
@@ -65,6 +66,7 @@ pub fn access_units(seed: u64, case: u64, ours: &mut Log, theirs: &mut Log) {
     let config = AccessUnitConfig {
         window: m.random.of(&[1, 2, 3, 8, 64]),
         far: m.random.of(&[0, 1, 30, 3000]),
+        far_behind: m.random.of(&[0, 1, 20, 100]),
         max_wait: m.random.of(&[0, 10, 50, u32::MAX]),
         begin_wait: m.random.of(&[0, 0, 10, 60, u32::MAX]),
         held_limit: m.random.of(&[20, 200, usize::MAX]),
@@ -81,6 +83,7 @@ pub fn access_units(seed: u64, case: u64, ours: &mut Log, theirs: &mut Log) {
         begin_wait: config.begin_wait,
         window: config.window,
         far_away: config.far,
+        far_behind: config.far_behind,
         numbers: m.has_donl,
         avc,
         has_sets: config.has_sets,

@@ -37,12 +37,13 @@ pub use crate::proved::h26x_access_units::{
 };
 
 /// A window of 512 packets and no limit on the time; nothing waits at the beginning of a stream; a number 3000 or
-/// more away is a stray (RFC 3550, A.1); 8 MB for what waits and for an open access unit, and 4 MB for an open unit.
+/// more ahead and 100 or more behind is a stray (RFC 3550, A.1); 8 MB for what waits and for an open access unit, and 4 MB for an open unit.
 impl Default for AccessUnitConfig {
     fn default() -> Self {
         AccessUnitConfig {
             window: 512,
             far: 3000,
+            far_behind: 100,
             max_wait: u32::MAX,
             begin_wait: 0,
             held_limit: 8_000_000,
@@ -59,7 +60,7 @@ impl fmt::Display for NotPushed {
             NotPushedReason::Late(behind) => {
                 write!(f, "the packet is {behind} behind the one that is due")
             }
-            NotPushedReason::Twice => f.write_str("a packet with its number waits"),
+            NotPushedReason::Twice => f.write_str("a packet with its number waits or was taken"),
             NotPushedReason::Full => f.write_str("more bytes wait than the limit"),
             NotPushedReason::OutOfMemory => f.write_str("out of memory"),
         }
@@ -78,6 +79,13 @@ impl core::error::Error for NotPushed {}
 pub struct AccessUnitReceiver {
     inner: Units<AnyPayloadDepacketizer>,
     codec: Codec,
+}
+
+fn check_window(config: &AccessUnitConfig) {
+    assert!(
+        (1..=1 << 14).contains(&config.window),
+        "a window has 1 to 16384 packets"
+    );
 }
 
 impl AccessUnitReceiver {
@@ -103,10 +111,7 @@ impl AccessUnitReceiver {
         is_avc: bool,
         config: AccessUnitConfig,
     ) -> Self {
-        assert!(
-            (1..=1 << 14).contains(&config.window),
-            "a window has 1 to 16384 packets"
-        );
+        check_window(&config);
         let mut depacketizer = AnyPayloadDepacketizer::new(codec);
         depacketizer.with_donl(has_donl);
         depacketizer.is_avc = is_avc;
@@ -119,6 +124,21 @@ impl AccessUnitReceiver {
     /// Its codec.
     pub fn codec(&self) -> Codec {
         self.codec
+    }
+
+    /// The settings.
+    pub fn config(&self) -> AccessUnitConfig {
+        self.inner.config()
+    }
+
+    /// Has other settings from now on, for what waits and is open too. It takes no memory.
+    ///
+    /// # Panics
+    ///
+    /// Where the window is 0 or over 16384.
+    pub fn set_config(&mut self, config: AccessUnitConfig) {
+        check_window(&config);
+        self.inner.set_config(config);
     }
 
     /// Takes a packet that came at this tick, and copies it if it is to wait: the one that is due is taken at

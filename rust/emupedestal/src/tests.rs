@@ -4,6 +4,8 @@ mod access_unit_receiver;
 mod access_unit_rows;
 mod access_units;
 mod access_units_told;
+#[cfg(feature = "sdp")]
+mod answer_rows;
 mod assembler;
 mod caveats;
 mod codecs;

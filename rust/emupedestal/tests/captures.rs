@@ -142,6 +142,13 @@ impl Capture {
         frames.find(|frame| frame[0] == timestamp.to_string())
     }
 
+    /// The timestamp of the frame that the encoder made before one.
+    fn before(&self, timestamp: u32) -> Option<u32> {
+        let times = self.frames.lines().map(|line| line.split(' ').next());
+        let times = times.map(|time| time.unwrap().parse::<u32>().unwrap());
+        times.take_while(|time| *time != timestamp).last()
+    }
+
     /// Whether an access unit has the NAL units of the frame with its timestamp.
     fn is_frame(&self, unit: &ReceivedAccessUnit) -> bool {
         let each = units(self.codec, &unit.bytes).map(|it| {
@@ -159,17 +166,20 @@ impl Capture {
 
 /// The access units of a capture, each beside the frame of its timestamp. Exactly those are told to be whole that are that
 /// frame, and not behind a lost packet: none has a delimiter. All keyframes begin with their parameter sets, and
-/// others refer to each other picture: so a keyframe is clean where it is that frame, and what is whole behind one that is.
+/// others refer to each other picture: so a keyframe is clean where it is that frame, and any that is its frame behind
+/// the one that was made before it, if that is clean.
 fn check(capture: &Capture) -> Vec<ReceivedAccessUnit> {
     let received = capture.received();
-    let mut is_clean = false;
+    let mut clean = None;
     for unit in &received {
         let frame = capture.frame(unit.timestamp).expect("a frame");
         let (is_frame, is_key) = (capture.is_frame(unit), frame[1] == "key");
         let is_whole = is_frame && unit.missing == 0;
         assert_eq!(unit.is_whole, is_whole, "{}", unit.first);
-        is_clean = is_frame && is_key || unit.is_whole && is_clean;
+        let before = capture.before(unit.timestamp);
+        let is_clean = is_frame && (is_key || before.is_some() && before == clean);
         assert_eq!(unit.is_clean, is_clean, "{}", unit.first);
+        clean = is_clean.then_some(unit.timestamp).or(clean);
         assert!(!unit.is_disposable && !unit.continues, "{}", unit.first);
     }
     received
@@ -214,4 +224,14 @@ fn chromium_with_red() {
         clean,
         [15769, 15774, 15776, 15778, 15780, 15798, 15803, 15805]
     );
+}
+
+/// A packet of FEC is lost right before an access unit, whose frame number tells that no picture is.
+#[test]
+fn chromium_with_red_of_which_fec_is_lost() {
+    let name = "chromium-h264-red-ulpfec-fec-loss";
+    let received = check(&capture(Codec::H264, (108, None, Some(118)), name));
+    assert!(received.iter().all(|unit| unit.is_clean));
+    let behind = received.iter().filter(|unit| unit.missing > 0);
+    assert_eq!(behind.map(|it| it.first).collect::<Vec<_>>(), [16066]);
 }

@@ -152,14 +152,15 @@ fn structs_of_the_header() {
         (8, 12)
     );
     assert_eq!(
-        (offset_of!(Config, far_away), offset_of!(Config, numbers)),
+        (offset_of!(Config, far_away), offset_of!(Config, far_behind)),
         (14, 16)
     );
     assert_eq!(
-        (offset_of!(Config, avc), offset_of!(Config, has_sets)),
-        (17, 18)
+        (offset_of!(Config, numbers), offset_of!(Config, avc)),
+        (18, 19)
     );
-    let limits = 19usize.next_multiple_of(word);
+    assert_eq!(offset_of!(Config, has_sets), 20);
+    let limits = 21usize.next_multiple_of(word);
     assert_eq!(
         (
             offset_of!(Config, held_limit),

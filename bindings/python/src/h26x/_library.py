@@ -56,6 +56,7 @@ class UnitsConfig(Structure):
         ("begin_wait", c_uint32),
         ("window", c_uint16),
         ("far_away", c_uint16),
+        ("far_behind", c_uint16),
         ("numbers", c_bool),
         ("avc", c_bool),
         ("has_sets", c_bool),
@@ -207,6 +208,7 @@ CALLS: Dict[str, Tuple[Any, List[Any]]] = {
     "receiver_restart": _DO,
     "receiver_run_len": (c_size_t, [_HANDLE]),
     "access_units_new": (c_uint32, [_CONFIG, _HANDLE]),
+    "access_units_set_config": (c_uint32, [_HANDLE, _CONFIG]),
     "access_units_free": _FREE,
     "access_units_push": (
         c_uint32,

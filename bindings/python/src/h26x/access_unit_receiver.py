@@ -34,16 +34,18 @@ class Pushed(IntEnum):
     HELD = 0
     #: Dropped: it came after its place was passed.
     LATE = 1
-    #: Dropped: a packet with its number waits.
+    #: Dropped: a packet with its number waits, or was taken and is among the last 1024.
     TWICE = 2
     #: Dropped: more bytes wait than the limit. Take access units, and give it again.
     FULL = 3
-    #: Its number is too far from the one that is due: it waits alone, in the place of another such
-    #: packet.
+    #: Its number is too far from the one that is due, or more than a window, and than 100, ahead of
+    #: those that wait: it waits alone, in the place of another such packet.
     STRAY = 4
     #: It follows the one that waited alone: the stream begins anew, and what waited of the old numbers
     #: is dropped.
     ANEW = 5
+    #: It is so far ahead, and no more than a window, or 100, from the one that waited alone: both wait.
+    JUMPED = 6
 
 
 @dataclass(frozen=True)
@@ -53,9 +55,9 @@ class AccessUnitConfig:
     #: A missing packet is waited for until one came so many places, less one, ahead of it: 1 to 16384.
     window: int = 512
     #: A number so far or farther ahead of the newest that waits (where none waits, of the one that is
-    #: due), and so far behind the one that is due, waits alone until the next such number follows it, and
-    #: then the stream begins anew with both, whatever `held_limit` is (RFC 3550, A.1). 0: none is too far,
-    #: and one behind is late.
+    #: due), and `far_behind` behind the one that is due, waits alone until the next such number follows
+    #: it, and then the stream begins anew with both, whatever `held_limit` is (RFC 3550, A.1). 0: none is
+    #: too far, and one behind is late.
     far: int = 3000
     #: A missing packet is waited for so many ticks at most after one behind it came. None: by the
     #: window alone.
@@ -74,6 +76,9 @@ class AccessUnitConfig:
     #: The decoder has the parameter sets, as from the `sprop-*` of a session description, so that it can
     #: begin with a keyframe that bears none.
     has_sets: bool = False
+    #: How far behind the one that is due a number is at least that is too far, but for the last 1024 that
+    #: the stream passed, which are late or twice. 0: as `far`.
+    far_behind: int = 100
 
 
 @dataclass(frozen=True)
@@ -92,7 +97,8 @@ class AccessUnit:
     is_whole: bool
     #: A decoder can show it. Nothing of it is missing, nor was since a keyframe that came from its first
     #: slice on with its parameter sets, in it or before it in order, or it is one. Disposable pictures may
-    #: be missing in part. Where it is False ask the sender for a keyframe.
+    #: be missing in part, and packets that by frame numbers of H.264 bore no reference picture. Where it
+    #: is False ask the sender for a keyframe.
     is_clean: bool
     #: No other picture refers to its own: those after it can be clean where it is damaged.
     is_disposable: bool
@@ -116,7 +122,7 @@ class Counts:
     lost: int = 0
     #: Packets that came after their place was passed.
     late: int = 0
-    #: Packets that came while one with their number waited.
+    #: Packets that came while one with their number waited, or after it was taken.
     twice: int = 0
     #: Packets whose number was too far from the one that was due.
     stray: int = 0
@@ -141,6 +147,24 @@ class Counts:
     still: int = 0
     #: Markers that weren't believed: no slice of their access unit had come, or the sender marks each slice.
     unbelieved: int = 0
+
+
+def _settings(codec: Codec, config: AccessUnitConfig, donl: bool, avc: bool) -> UnitsConfig:
+    """The settings as C takes them."""
+    return UnitsConfig(
+        codec=codec,
+        max_wait=_wait("max_wait", config.max_wait),
+        begin_wait=_wait("begin_wait", config.begin_wait),
+        window=number("window", config.window, 65535),
+        far_away=number("far", config.far, 65535),
+        far_behind=number("far_behind", config.far_behind, 65535),
+        numbers=donl,
+        avc=avc,
+        has_sets=config.has_sets,
+        held_limit=number("held_limit", config.held_limit),
+        run_limit=number("run_limit", config.run_limit),
+        unit_limit=number("unit_limit", config.unit_limit),
+    )
 
 
 class AccessUnitReceiver(Owner):
@@ -179,19 +203,7 @@ class AccessUnitReceiver(Owner):
         """A receiver that takes any sequence number as the first. `donl` and `avc` are those of a
         Depacketizer. Raises UnknownCodec, NotOfThisCodec, OutOfRange or OutOfMemory."""
         self._codec = codec_of(codec)
-        wanted = UnitsConfig(
-            codec=self._codec,
-            max_wait=_wait("max_wait", config.max_wait),
-            begin_wait=_wait("begin_wait", config.begin_wait),
-            window=number("window", config.window, 65535),
-            far_away=number("far", config.far, 65535),
-            numbers=donl,
-            avc=avc,
-            has_sets=config.has_sets,
-            held_limit=number("held_limit", config.held_limit),
-            run_limit=number("run_limit", config.run_limit),
-            unit_limit=number("unit_limit", config.unit_limit),
-        )
+        wanted = _settings(self._codec, config, donl, avc)
         made = Handle()
         check(library.h26x_access_units_new(byref(wanted), byref(made)))
         self._room, self._unit = Room(), UnitTold()
@@ -201,6 +213,12 @@ class AccessUnitReceiver(Owner):
     def codec(self) -> Codec:
         """Its codec."""
         return self._codec
+
+    def set_config(self, config: AccessUnitConfig) -> None:
+        """Has other settings from now on, for what waits and is open too. Raises OutOfRange, which changes
+        nothing."""
+        wanted = _settings(self._codec, config, False, False)
+        check(self._with_handle(library.h26x_access_units_set_config, byref(wanted)))
 
     def push(self, now: int, packet: RtpPacket) -> Tuple[Pushed, int]:
         """Takes a packet that came at this tick, and copies it where it waits. Answers what became of

@@ -46,6 +46,7 @@ pub struct Config {
     pub begin_wait: u32,
     pub window: u16,
     pub far_away: u16,
+    pub far_behind: u16,
     pub numbers: bool,
     pub avc: bool,
     pub has_sets: bool,

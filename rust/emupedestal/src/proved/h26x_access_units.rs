@@ -4,17 +4,21 @@
 //! access units of H.264, H.265 or H.266, one after the other: a jitter buffer with a window, a time
 //! and a limit on bytes before an assembler.
 mod arrival;
+mod bits;
 mod config;
 mod content;
 mod counts;
 mod decoder;
 mod due;
+mod frame_number;
 mod framing;
 mod jitter;
 mod numbers;
+mod passed;
 mod pushed;
 mod receiver;
 mod unit;
+mod way;
 
 pub use arrival::Arrival;
 pub use config::AccessUnitConfig;

@@ -3,7 +3,7 @@
 
 use super::AllocError;
 use alloc::string::String;
-use data_encoding::{Encoding, HEXLOWER, HEXLOWER_PERMISSIVE, HEXUPPER};
+use data_encoding::{HEXLOWER, HEXLOWER_PERMISSIVE};
 
 /// The text isn't two digits for each of the bytes.
 #[derive(Debug)]
@@ -35,20 +35,12 @@ impl<const N: usize> FromHex for [u8; N] {
 
 /// The digits of bytes, in lower case.
 pub fn encode<T: AsRef<[u8]>>(bytes: T) -> Result<String, AllocError> {
-    encoded(&HEXLOWER, bytes.as_ref())
-}
-
-/// The digits of bytes, in upper case.
-pub fn encode_upper<T: AsRef<[u8]>>(bytes: T) -> Result<String, AllocError> {
-    encoded(&HEXUPPER, bytes.as_ref())
-}
-
-fn encoded(digits_of: &Encoding, bytes: &[u8]) -> Result<String, AllocError> {
+    let bytes = bytes.as_ref();
     let mut text = String::new();
-    text.try_reserve(digits_of.encode_len(bytes.len()))?;
+    text.try_reserve(HEXLOWER.encode_len(bytes.len()))?;
     for byte in bytes {
         let mut digits = [0; 2];
-        digits_of.encode_mut(&[*byte], &mut digits);
+        HEXLOWER.encode_mut(&[*byte], &mut digits);
         text.extend(digits.map(char::from));
     }
     Ok(text)

@@ -228,7 +228,10 @@ fn packets_by_value() {
         .push_held(0, HeldPacket::new(7, 10, true, bytes("6103")))
         .unwrap_err();
     assert_eq!(twice.reason, NotPushedReason::Twice);
-    assert_eq!(twice.to_string(), "a packet with its number waits");
+    assert_eq!(
+        twice.to_string(),
+        "a packet with its number waits or was taken"
+    );
     assert_eq!(twice.packet.into_payload(), bytes("6103"));
     assert_eq!(units(&mut it, 0)[0].bytes, bytes("00000001 610102"));
     let late = it

@@ -3,7 +3,7 @@
 
 use super::bytes;
 use crate::access_unit_receiver::{
-    AccessUnitConfig, AccessUnitReceiver, Counts, ReceivedAccessUnit,
+    AccessUnitConfig, AccessUnitReceiver, Counts, Pushed, ReceivedAccessUnit,
 };
 use crate::{Codec, CodecExtra, RtpPacket};
 
@@ -58,11 +58,26 @@ fn push(it: &mut AccessUnitReceiver, packet: &str) -> Vec<ReceivedAccessUnit> {
     let payload = &bytes(payload);
     let packet = RtpPacket {
         sequence: number.parse().expect("a number"),
-        timestamp: timestamp.trim_end_matches('m').parse().expect("a number"),
-        marker: timestamp.ends_with('m'),
+        timestamp: timestamp
+            .trim_end_matches(char::is_alphabetic)
+            .parse()
+            .expect("a number"),
+        marker: timestamp.contains('m'),
         payload,
     };
-    it.push(0, &packet).expect("memory");
+    let pushed = match it.push(0, &packet).expect("memory") {
+        Pushed::Held => 'm',
+        Pushed::Late(_) => 'l',
+        Pushed::Twice => 't',
+        Pushed::Stray => 's',
+        Pushed::Anew => 'a',
+        Pushed::Jumped => 'j',
+        Pushed::Full => 'f',
+    };
+    let wanted = timestamp
+        .trim_start_matches(char::is_numeric)
+        .trim_start_matches('m');
+    assert_eq!(pushed.to_string().trim_matches('m'), wanted, "{number}");
     units(it)
 }
 
@@ -78,6 +93,10 @@ fn compare_counts(counts: Counts, wanted: &[&str], row: &str) {
         ("unbelieved", counts.unbelieved),
         ("refused", counts.refused),
         ("lost", counts.lost),
+        ("late", counts.late),
+        ("twice", counts.twice),
+        ("stray", counts.stray),
+        ("anew", counts.anew),
     ] {
         let at = wanted.iter().position(|it| *it == name);
         let wanted = at.map_or("0", |at| wanted[at + 1]);

@@ -24,7 +24,7 @@ use std::collections::HashSet;
 
 /// A number is far where it is so much ahead of the one that is due, or so much behind (RFC 3550, A.1).
 const FAR: u16 = 3000;
-/// So many late packets in a row are a sender's that began anew.
+/// So many packets in a row that are late, or had come before, are a sender's that began anew.
 const MOST_LATE: u16 = 64;
 /// An access unit that is longer ends behind a unit.
 const LONGEST_UNIT: usize = 1 << 25;
@@ -67,7 +67,9 @@ pub struct Reception {
     lost: u32,
     /// A packet far from all others, which the next may go on from.
     stray: Option<Kept>,
-    /// How many late packets came in a row, and the number behind the last of them.
+    /// A packet more than a window ahead, which waits apart in the receiver until another is near it.
+    ahead: Option<Kept>,
+    /// How many packets in a row were late or had come before, and the number behind the last of them.
     late: (u16, u16),
     /// When the first packet was captured, and the latest one, in nanoseconds.
     clock: Option<(u64, u64)>,
@@ -90,6 +92,7 @@ impl Reception {
         let config = AccessUnitConfig {
             window: looking.window + 1,
             far: 0,
+            far_behind: 0,
             max_wait: looking.wait,
             begin_wait: looking.begin_wait,
             held_limit: usize::MAX,
@@ -110,6 +113,7 @@ impl Reception {
             has_passed: false,
             lost: 0,
             stray: None,
+            ahead: None,
             late: (0, 0),
             clock: None,
             unit_len: 0,
@@ -137,9 +141,11 @@ impl Reception {
     /// Takes a packet that was sent again, which tells nothing of when the sender sends and how it numbers.
     fn take_resent(&mut self, packet: &Captured<'_>, tell: &mut Tell<'_>) -> Outcome {
         let sequence = packet.rtp.sequence;
-        if !self.is_far(sequence) && !matches!(self.push(packet)?, Pushed::Late(_) | Pushed::Twice)
-        {
-            return self.take_held(packet, tell);
+        if !self.is_far(sequence) {
+            match self.push(packet)? {
+                Pushed::Late(_) | Pushed::Twice => {}
+                pushed => return self.take_pushed(packet, pushed, tell),
+            }
         }
         self.tally.again += 1;
         tell(Told::Again(sequence))
@@ -154,16 +160,68 @@ impl Reception {
             Pushed::Late(behind) if !self.recovered.remove(&sequence) => {
                 self.take_late(packet, behind, tell)
             }
-            Pushed::Late(_) | Pushed::Twice => {
-                self.tally.twice += 1;
-                tell(Told::Twice(sequence))
-            }
-            _ => {
+            Pushed::Late(_) | Pushed::Twice => self.take_twice(packet, tell),
+            pushed => {
                 self.late.0 = 0;
-                self.take_held(packet, tell)?;
+                self.take_pushed(packet, pushed, tell)?;
                 self.end_long(packet, tell)
             }
         }
+    }
+
+    /// Takes a packet of which this became in the receiver, where it isn't dropped.
+    fn take_pushed(
+        &mut self,
+        packet: &Captured<'_>,
+        pushed: Pushed,
+        tell: &mut Tell<'_>,
+    ) -> Outcome {
+        if pushed == Pushed::Stray {
+            self.give_ahead(tell)?;
+            self.ahead = Some(Kept::new(packet));
+            return Ok(());
+        }
+        if pushed == Pushed::Jumped {
+            let is_other = |it: &mut Kept| it.sequence() != packet.rtp.sequence;
+            if let (Some(ahead), Some(due)) = (self.ahead.take_if(is_other), self.due) {
+                self.waiting.put(&ahead.packet(), due);
+            }
+            self.give_ahead(tell)?;
+        }
+        self.take_held(packet, tell)
+    }
+
+    /// Tells of a packet that waited apart, near which none came.
+    fn give_ahead(&mut self, tell: &mut Tell<'_>) -> Outcome {
+        let Some(ahead) = self.ahead.take() else {
+            return Ok(());
+        };
+        self.tally.strays += 1;
+        tell(Told::Stray(ahead.sequence()))
+    }
+
+    /// Passes over a packet that had come before; or begins anew with it.
+    fn take_twice(&mut self, packet: &Captured<'_>, tell: &mut Tell<'_>) -> Outcome {
+        let sequence = packet.rtp.sequence;
+        let is_behind = |due| sequence.wrapping_sub(due) > u16::MAX / 2;
+        let is_recovered = self.recovered.remove(&sequence);
+        if !is_recovered && self.due.is_some_and(is_behind) && self.ends_row(sequence) {
+            self.begin_anew(tell)?;
+            return self.sort_in(packet, tell);
+        }
+        self.tally.twice += 1;
+        tell(Told::Twice(sequence))
+    }
+
+    /// Whether so many came in a row with this one that the sender began anew.
+    fn ends_row(&mut self, sequence: u16) -> bool {
+        let in_row = if self.late.1 == sequence {
+            self.late.0 + 1
+        } else {
+            1
+        };
+        self.late = (in_row, sequence.wrapping_add(1));
+        in_row == MOST_LATE
     }
 
     /// Ends an access unit that is too long, where no unit goes on. Any number is the next then.
@@ -172,7 +230,8 @@ impl Reception {
             return Ok(());
         }
         self.receiver.finish();
-        self.drain(tell)
+        self.drain(tell)?;
+        self.give_ahead(tell)
     }
 
     fn kind(&self, packet: &Captured<'_>) -> Kind {
@@ -403,14 +462,7 @@ impl Reception {
 
     /// Tells of a packet that is late; or begins anew with it.
     fn take_late(&mut self, packet: &Captured<'_>, behind: u16, tell: &mut Tell<'_>) -> Outcome {
-        let sequence = packet.rtp.sequence;
-        let in_row = if self.late.1 == sequence {
-            self.late.0 + 1
-        } else {
-            1
-        };
-        self.late = (in_row, sequence.wrapping_add(1));
-        if in_row == MOST_LATE {
+        if self.ends_row(packet.rtp.sequence) {
             self.begin_anew(tell)?;
             return self.sort_in(packet, tell);
         }
@@ -469,6 +521,7 @@ impl Reception {
     fn end(&mut self, tell: &mut Tell<'_>) -> Outcome {
         self.receiver.finish();
         self.drain(tell)?;
+        self.give_ahead(tell)?;
         self.runs.give_up();
         let lost = std::mem::take(&mut self.lost);
         self.tally.miss(self.due.unwrap_or_default(), lost);

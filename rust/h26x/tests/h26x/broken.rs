@@ -216,7 +216,7 @@ fn no_streams() {
         ("empty.h266", b"", "no unit in it"),
         ("zeros.h264", &[0; 3_000_000], "no unit in it"),
         ("code.h264", &[0, 0, 1], "no unit in it"),
-        ("delimiter.h264", &[0, 0, 1, 9, 0x10], "no unit in it"),
+        ("aggregate.h264", &[0, 0, 1, 24, 0x10], "no unit in it"),
     ] {
         folder.write(name, bytes);
         folder

@@ -322,6 +322,6 @@ fn streams_are_chosen() {
     let noise = ["receive", "in.pcap", "noise.h264", "--ssrc", "0x010203ff"];
     folder
         .run(&noise)
-        .says(3, &["4 packets: not taken, come twice or too late"]);
+        .says(0, &["4 packets: passed over, come twice"]);
     assert_eq!(folder.read("noise.h264"), [0, 0, 0, 1, 1, 2, 3]);
 }

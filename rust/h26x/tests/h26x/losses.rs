@@ -149,7 +149,7 @@ fn each_stray_is_told() {
 fn numbers_that_go_back() {
     let again = slices((1_000..1_300).chain(1_050..1_113).chain(1_300..1_400));
     let ran = receives(&again, &[], &slices(1_000..1_400));
-    ran.says(0, &["63 packets: not taken, come twice or too late"]);
+    ran.says(0, &["63 packets: passed over, come twice"]);
     let anew = slices((1_000..1_300).chain(400..500));
     let ran = receives(&anew, &[], &slices((1_000..1_300).chain(463..500)));
     ran.says(

@@ -243,10 +243,13 @@ fn with_numbers_that_jump() {
     sent.comes_back(&twice, &["come twice"]);
     // Fewer than the 64 behind which the sender began anew.
     let again = frames(sent.packets.iter().chain(&sent.packets[..63]));
-    sent.comes_back(&again, &["63 packets: not taken, come twice or too late"]);
+    sent.comes_back(&again, &["63 packets: passed over, come twice"]);
     // From the 64th on, which is within a unit.
     let again = frames(sent.packets.iter().chain(&sent.packets));
-    let said = ["63 packets: not taken", "1 time: the sender began anew"];
+    let said = [
+        "63 packets: passed over, come twice",
+        "1 time: the sender began anew",
+    ];
     let (_, units) = sent.receive(&again, 3, &said);
     let known = crate::program::cut(&sent.units);
     let (front, rest) = units.split_at(sent.units.len());

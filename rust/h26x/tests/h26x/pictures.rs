@@ -37,7 +37,7 @@ fn what_a_page_shows() {
     let folder = Folder::new();
     folder.write("in.pcap", &pcap_with(&packets()));
     let ran = folder.run(&["inspect", "in.pcap", "--html", "out.html", "--window", "2"]);
-    ran.says(3, &["11 packets of", "lost: 1 packet: 1 before 4"]);
+    ran.says(3, &["10 packets of", "lost: 1 packet: 1 before 4"]);
     assert!(!ran.out.contains("  seq "), "{ran:?}");
     let page = String::from_utf8(folder.read("out.html")).expect("text");
     let data = data(&page);

@@ -267,7 +267,7 @@ fn duplicates_a_window_late() {
         came.insert(at + 40, in_order[at - 9].clone());
     }
     let wanted = [units(&in_order[..100]), whole(3), units(&in_order[103..])].concat();
-    receives(&came, &[], &wanted).says(0, &["6 packets: not taken, come twice or too late"]);
+    receives(&came, &[], &wanted).says(0, &["6 packets: passed over, come twice"]);
     assert_eq!(access_units(&came), access_units(&in_order));
 }
 

@@ -9,7 +9,7 @@ use crate::program::{Folder, cut, small_streams};
 const FORMATS: [(&str, &str); 3] = [
     (
         "h264",
-        "profile-level-id=42C00A;sprop-parameter-sets=Z0LACtkJbARAAAADAEAAAAyDxImS,aMuBEsg=;packetization-mode=1",
+        "profile-level-id=42c00a;sprop-parameter-sets=Z0LACtkJbARAAAADAEAAAAyDxImS,aMuBEsg=;packetization-mode=1",
     ),
     (
         "h265",

@@ -3,12 +3,13 @@
 use crate::lengths::check_lengths;
 use crate::program::{Folder, cut, small_streams};
 
-/// Units that are never sent: delimiters, and of H.266 types 28 and 29.
+/// Whether a unit is sent: those of types that packets have are not (RFC 6184, 5.2; RFC 7798, 4.4; RFC
+/// 9328, 4.3).
 fn is_sent(codec: &str, unit: &[u8]) -> bool {
     match codec {
-        "h264" => unit[0] & 0x1f != 9,
-        "h265" => unit[0] >> 1 & 0x3f != 35,
-        _ => !matches!(unit[1] >> 3, 20 | 28 | 29),
+        "h264" => matches!(unit[0] & 0x1f, 1..=23),
+        "h265" => !matches!(unit[0] >> 1 & 0x3f, 48..=50),
+        _ => !matches!(unit[1] >> 3, 28 | 29),
     }
 }
 
@@ -107,7 +108,7 @@ fn in_packets_longer_than_ethernet_has() {
     }
 }
 
-/// Sets that `packetize` would drop or leave behind: two PPS, one alone, and one longer than a packet.
+/// Sets that str0m's `packetize` drops or leaves behind: two PPS, one alone, and one longer than a packet.
 #[test]
 fn every_parameter_set_comes() {
     let long_set = [&[0x67, 0x42][..], &[7; 300]].concat();
@@ -134,7 +135,8 @@ fn every_parameter_set_comes() {
     assert_eq!(back, stream);
 }
 
-/// A set that is sent as it is, and behind it what is left out: the marker is on the set.
+/// A set and a delimiter in one packet, with the lowest temporal id (RFC 7798, 4.4.2), and behind them
+/// half a header, which is left out: the marker is on that packet.
 #[test]
 fn a_marker_behind_which_units_are_left_out() {
     let folder = Folder::new();
@@ -144,10 +146,47 @@ fn a_marker_behind_which_units_are_left_out() {
     );
     folder
         .run(&["send", "in.h265", "out.pcap"])
-        .says(0, &["1 access unit in 1 packet", "left out: 2 units"]);
+        .says(0, &["1 access unit in 1 packet", "left out: 1 unit"]);
     let capture = folder.read("out.pcap");
     let rtp = &capture[24 + 16 + 14 + 20 + 8..];
-    assert_eq!((rtp[1], &rtp[12..]), (0x80 | 96, &[0x42, 1, 9][..]));
+    let together = [0x60, 1, 0, 3, 0x42, 1, 9, 0, 3, 0x46, 1, 0x50];
+    assert_eq!((rtp[1], &rtp[12..]), (0x80 | 96, &together[..]));
+}
+
+/// By `packetize` of str0m a delimiter isn't sent, and of two PPS the last one.
+#[test]
+fn as_str0m() {
+    let units: [&[u8]; 5] = [
+        &[0x09, 0xf0],
+        &[0x67, 0x42, 1],
+        &[0x68, 0xc1],
+        &[0x68, 0xc2],
+        &[0x65, 0x88, 1],
+    ];
+    let stream = units.map(|unit| [&[0, 0, 0, 1], unit].concat()).concat();
+    let folder = Folder::new();
+    folder.write("in.h264", &stream);
+    for (option, said, back) in [
+        (
+            "--as-str0m",
+            ["1 access unit in 2 packets", "left out: 1 unit"],
+            &[1, 3, 4][..],
+        ),
+        (
+            "--sequence=7",
+            ["1 access unit in 1 packet", "left out: 0 units"],
+            &[0, 1, 2, 3, 4],
+        ),
+    ] {
+        folder
+            .run(&["send", "in.h264", "out.pcap", option])
+            .says(0, &said);
+        folder
+            .run(&["receive", "out.pcap", "back.h264"])
+            .says(0, &[]);
+        let back: Vec<_> = back.iter().map(|i| units[*i].to_vec()).collect();
+        assert_eq!(cut(&folder.read("back.h264")), back);
+    }
 }
 
 /// A stream of some megabytes, so that each buffer is filled more than once.
@@ -187,7 +226,8 @@ fn checksums() {
     assert_eq!(packets, 60);
 }
 
-/// An access unit's packets have one timestamp, and its last the marker: here two slices of a picture.
+/// An access unit's packets have one timestamp, and its last the marker: here two slices of a picture,
+/// for which one packet has no room.
 #[test]
 fn markers_and_timestamps() {
     let folder = Folder::new();
@@ -197,7 +237,7 @@ fn markers_and_timestamps() {
     ];
     folder.write("in.264", &stream);
     folder
-        .run(&["send", "in.264", "out.pcap", "--fps", "30000/1001"])
+        .run(&["send", "in.264", "out.pcap", "--fps=30000/1001", "--mtu=10"])
         .says(0, &["3 access units in 4 packets"]);
     let capture = folder.read("out.pcap");
     let records: Vec<&[u8]> = capture[24..].chunks(16 + 14 + 20 + 8 + 12 + 3).collect();

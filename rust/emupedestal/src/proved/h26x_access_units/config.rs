@@ -10,9 +10,12 @@ pub struct AccessUnitConfig {
     /// less one, ahead of it, 1 to 2^14.
     pub window: u16,
     /// A number so far or farther ahead of the newest that waits (where none waits, of the one that is
-    /// due), and so far behind the one that is due, is a stray, which waits alone until the number
-    /// behind it comes (RFC 3550, A.1); 0: none is.
+    /// due), and `far_behind` behind the one due, is a stray, which waits alone until the number behind
+    /// it comes (RFC 3550, A.1, MAX_DROPOUT, 3000 there); 0: none is.
     pub far: u16,
+    /// How far behind the one that is due a stray is at least (RFC 3550, A.1, MAX_MISORDER, 100 there);
+    /// 0: as `far`. None of the last 1024 numbers that the stream passed is one.
+    pub far_behind: u16,
     /// A packet that is missing is waited for so long at most after one behind it came, in the
     /// caller's ticks, which go round at 2^32; `u32::MAX`: by the window alone.
     pub max_wait: u32,

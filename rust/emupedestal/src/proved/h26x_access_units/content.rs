@@ -2,6 +2,7 @@
 
 //! What the NAL units of an access unit tell of it, from the first up to its first slice.
 
+use crate::proved::h26x_access_units::frame_number::{Numbering, sps_numbering};
 use crate::proved::h26x_core::CodecExtra;
 use crate::proved::h26x_cut::behind_code;
 
@@ -86,12 +87,36 @@ pub struct Content {
     pub picture_header: Option<bool>,
     /// The first slice.
     pub slice: Option<Slice>,
+    /// What sequence parameter sets of H.264 tell of frame numbers.
+    pub numbering: Numbering,
+    /// Of H.264 the eight bytes behind the header of the first slice, 0 behind the end.
+    pub head: Option<[u8; 8]>,
 }
 
 /// The byte at a place, 0 behind the end.
 #[inline]
 pub(crate) fn byte_at(unit: &[u8], place: usize) -> u8 {
     if place < unit.len() { unit[place] } else { 0 }
+}
+
+/// The eight bytes behind the header of an H.264 slice, 0 behind the end.
+#[inline]
+fn slice_head(unit: &[u8]) -> [u8; 8] {
+    if unit.len() > 8 {
+        return [
+            unit[1], unit[2], unit[3], unit[4], unit[5], unit[6], unit[7], unit[8],
+        ];
+    }
+    [
+        byte_at(unit, 1),
+        byte_at(unit, 2),
+        byte_at(unit, 3),
+        byte_at(unit, 4),
+        byte_at(unit, 5),
+        byte_at(unit, 6),
+        byte_at(unit, 7),
+        0,
+    ]
 }
 
 /// The kind of an H.264 unit (Recommendation H.264, 7.3.1, 7.3.3, table 7-1).
@@ -211,9 +236,11 @@ impl Content {
         highest_layer: 0,
         picture_header: None,
         slice: None,
+        numbering: Numbering::NotTold,
+        head: None,
     };
 
-    /// The same with a unit more.
+    /// The same with the kind of a unit more.
     #[inline]
     fn with(mut self, kind: UnitKind) -> Self {
         if self.first.is_none() {
@@ -241,6 +268,28 @@ impl Content {
         }
         self
     }
+
+    /// The same with what an H.264 unit of a kind tells of frame numbers.
+    #[inline]
+    fn telling_frames(mut self, kind: UnitKind, unit: &[u8]) -> Self {
+        match kind {
+            UnitKind::Sps(_) => self.numbering = self.numbering.joined(sps_numbering(unit)),
+            UnitKind::Slice(_) => self.head = Some(slice_head(unit)),
+            _ => {}
+        }
+        self
+    }
+
+    /// The same with a unit more.
+    #[inline]
+    fn with_unit(self, extra: CodecExtra, unit: &[u8]) -> Self {
+        let kind = content_kind(extra, unit);
+        let content = self.with(kind);
+        match extra {
+            CodecExtra::H264(_) => content.telling_frames(kind, unit),
+            _ => content,
+        }
+    }
 }
 
 /// What the units of a text tell, up to the first slice; behind 64 units none is looked at.
@@ -252,7 +301,7 @@ pub(crate) fn content_of(is_avc: bool, extra: CodecExtra, text: &[u8]) -> Conten
         let Some((unit, behind)) = first_unit(is_avc, rest) else {
             return content;
         };
-        content = content.with(content_kind(extra, unit));
+        content = content.with_unit(extra, unit);
         if content.slice.is_some() {
             return content;
         }

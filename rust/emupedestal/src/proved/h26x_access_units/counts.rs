@@ -83,7 +83,7 @@ impl Counts {
             Pushed::Twice => self.twice = self.twice.saturating_add(1),
             Pushed::Stray => self.stray = self.stray.saturating_add(1),
             Pushed::Anew => self.anew = self.anew.saturating_add(1),
-            Pushed::Held | Pushed::Full => {}
+            Pushed::Held | Pushed::Jumped | Pushed::Full => {}
         }
     }
 

@@ -3,6 +3,7 @@
 //! What is known of a decoder that is given the access units, one after the other.
 
 use crate::proved::h26x_access_units::content::{Content, ParameterSets, UnitKind};
+use crate::proved::h26x_access_units::frame_number::{Numbering, tells_none_lost};
 use crate::proved::h26x_access_units::numbers::AccessUnitNumbers;
 use crate::proved::h26x_core::CodecExtra;
 
@@ -16,6 +17,13 @@ pub(crate) struct DecoderState {
     pub sets: ParameterSets,
     /// The highest temporal layer that sequence parameter sets tell, or 0.
     pub highest_layer: u8,
+    /// What all sequence parameter sets of H.264 tell of frame numbers.
+    pub numbering: Numbering,
+    /// The bytes behind the header of the first slice of the last reference picture of H.264, which a
+    /// decoder has that can go on, where they are known.
+    pub last_head: Option<[u8; 8]>,
+    /// Whether the last keyframe took more packets than one.
+    pub has_long_key: bool,
     /// Whether an access unit was given out since the beginning or `restart`.
     pub has_begun: bool,
 }
@@ -39,6 +47,15 @@ fn is_first_key(content: Content) -> bool {
     }
 }
 
+/// Whether the first slice is the first of a picture that is no keyframe.
+#[inline]
+fn is_first_other(content: Content) -> bool {
+    match content.slice {
+        Some(slice) => slice.is_first && !slice.is_key,
+        None => false,
+    }
+}
+
 impl DecoderState {
     /// Before any access unit.
     #[inline]
@@ -47,6 +64,9 @@ impl DecoderState {
             is_clean: false,
             sets: ParameterSets::NONE,
             highest_layer: 0,
+            numbering: Numbering::NotTold,
+            last_head: None,
+            has_long_key: false,
             has_begun: false,
         }
     }
@@ -140,10 +160,72 @@ impl DecoderState {
             && (has_sets || are_enough(extra, self.sets_after(is_unbroken, numbers, content)))
     }
 
+    /// The bytes behind the header of the first slice of the last reference picture.
+    #[inline]
+    fn head_after(
+        self,
+        is_unbroken: bool,
+        numbers: AccessUnitNumbers,
+        content: Content,
+    ) -> Option<[u8; 8]> {
+        let slice = content.slice?;
+        if slice.is_unreferenced && !slice.is_key {
+            return if numbers.is_counted {
+                self.last_head
+            } else {
+                None
+            };
+        }
+        if is_unbroken && slice.is_first {
+            content.head
+        } else {
+            None
+        }
+    }
+
+    /// Whether the last keyframe took more packets than one.
+    #[inline]
+    fn long_key_after(self, numbers: AccessUnitNumbers, content: Content) -> bool {
+        match content.slice {
+            Some(slice) if slice.is_key => numbers.first != numbers.last,
+            _ => self.has_long_key,
+        }
+    }
+
+    /// Whether frame numbers of H.264 tell that no reference picture is among what is missing before an
+    /// access unit.
+    #[cold]
+    #[inline(never)]
+    fn is_behind_no_loss(
+        self,
+        has_sets: bool,
+        numbers: AccessUnitNumbers,
+        content: Content,
+    ) -> bool {
+        let is_asked = !has_sets && numbers.is_counted && !numbers.continues;
+        is_asked
+            && is_first_other(content)
+            && tells_none_lost(
+                self.numbering.joined(content.numbering),
+                self.has_long_key,
+                self.last_head,
+                content.head,
+                numbers.missing,
+            )
+    }
+
     /// Whether a decoder that could go on before an access unit can go on behind it.
     #[inline]
-    fn can_go_on(self, is_unbroken: bool, numbers: AccessUnitNumbers, content: Content) -> bool {
-        self.is_clean && numbers.follows && (is_unbroken || self.is_disposable(numbers, content))
+    fn can_go_on(
+        self,
+        has_sets: bool,
+        is_unbroken: bool,
+        numbers: AccessUnitNumbers,
+        content: Content,
+    ) -> bool {
+        self.is_clean
+            && (numbers.follows || self.is_behind_no_loss(has_sets, numbers, content))
+            && (is_unbroken || self.is_disposable(numbers, content))
     }
 
     /// Whether an access unit is told to be whole, which is unbroken from its first packet on or isn't.
@@ -178,9 +260,12 @@ impl DecoderState {
     ) -> Self {
         DecoderState {
             is_clean: self.can_begin(has_sets, is_unbroken, extra, numbers, content)
-                || self.can_go_on(is_unbroken, numbers, content),
+                || self.can_go_on(has_sets, is_unbroken, numbers, content),
             sets: self.sets_after(is_unbroken, numbers, content),
             highest_layer: self.layer_after(numbers, content),
+            numbering: self.numbering.joined(content.numbering),
+            last_head: self.head_after(is_unbroken, numbers, content),
+            has_long_key: self.long_key_after(numbers, content),
             has_begun: true,
         }
     }

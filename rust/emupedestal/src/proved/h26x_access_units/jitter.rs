@@ -13,6 +13,9 @@ use crate::support::TryVec;
 use alloc::collections::VecDeque;
 use alloc::vec::Vec;
 
+/// How far numbers are out of order at most (RFC 3550, A.1).
+const MAX_MISORDER: u16 = 100;
+
 /// Appends numbers from one on, so many.
 fn append_numbers(numbers: &mut Vec<u16>, first: u16, count: u16) -> Result<(), AllocError> {
     let mut number = first;
@@ -61,12 +64,16 @@ impl JitterBuffer {
         self.config.held_limit = limit;
     }
 
-    /// The number of the last packet that waits, or the one that is due where none waits.
-    fn newest(&self, due: u16) -> u16 {
-        match self.buffer.len() {
-            0 => due,
-            len => self.buffer.number_at(len - 1),
-        }
+    /// Has other settings from now on.
+    pub(crate) fn set_config(&mut self, config: AccessUnitConfig) {
+        self.config = config;
+        self.buffer.set_window(config.window);
+    }
+
+    /// The number that is due, if a packet came.
+    #[inline]
+    pub(crate) fn due(&self) -> Option<u16> {
+        self.buffer.due()
     }
 
     /// Whether a number is so far ahead of the newest that waits, or of the one that is due where none
@@ -75,14 +82,44 @@ impl JitterBuffer {
         let far = self.config.far;
         match self.buffer.due() {
             Some(due) if far != 0 && number.wrapping_sub(due) >= far => {
-                let newest = self.newest(due);
+                let newest = self.buffer.newest(due);
                 let is_between = number.wrapping_sub(due) <= newest.wrapping_sub(due);
                 let ahead = number.wrapping_sub(newest);
                 let behind = due.wrapping_sub(number);
-                !is_between && ahead >= far && behind >= far
+                !is_between && ahead >= far && behind >= self.far_back()
             }
             _ => false,
         }
+    }
+
+    /// How far behind the number that is due one is at least that is too far.
+    fn far_back(&self) -> u16 {
+        match self.config.far_behind {
+            0 => self.config.far,
+            behind => behind,
+        }
+    }
+
+    /// How far ahead of those that wait a packet is taken as it comes.
+    fn reach(&self) -> u16 {
+        self.config.window.max(MAX_MISORDER)
+    }
+
+    /// Whether a number is more than a window, and than 100, ahead of the newest that waits, or of the
+    /// one that is due where none waits, and not late.
+    pub fn is_ahead(&self, number: u16) -> bool {
+        match self.buffer.due() {
+            Some(due) if self.buffer.is_beyond(number) => {
+                number.wrapping_sub(self.buffer.newest(due)) > self.reach()
+            }
+            _ => false,
+        }
+    }
+
+    /// Whether a number is near another one: no more than a window, or than 100, ahead of it or behind.
+    pub(crate) fn is_near(&self, other: u16, number: u16) -> bool {
+        let reach = self.reach();
+        number.wrapping_sub(other) <= reach || other.wrapping_sub(number) <= reach
     }
 
     /// How many packets wait.
@@ -141,6 +178,65 @@ impl JitterBuffer {
             crate::proved::h26x_reorder::Pushed::Late(count) => Ok(Pushed::Late(count)),
             crate::proved::h26x_reorder::Pushed::Twice => Ok(Pushed::Twice),
         }
+    }
+
+    /// Whether what waits stays within the limit with a packet that waited alone, or none waits.
+    fn has_room_for(&self, stray: &RtpPacket<'_>) -> bool {
+        match self.config.held_limit.checked_sub(self.bytes) {
+            Some(left) => self.is_empty() || stray.payload.len() <= left,
+            None => self.is_empty(),
+        }
+    }
+
+    /// Takes a packet that is more than a window ahead, near one that waited alone, and this one with
+    /// it, where there is room. The answer is whether it waits: not where more bytes wait than the
+    /// limit.
+    pub(crate) fn push_with(
+        &mut self,
+        now: u32,
+        stray: &RtpPacket<'_>,
+        packet: &RtpPacket<'_>,
+    ) -> Result<bool, AllocError> {
+        if self.bytes_with(packet.payload.len()).is_none() {
+            return Ok(false);
+        }
+        let has_room = self.has_room_for(stray);
+        if has_room && self.buffer.are_beyond(stray.sequence, packet.sequence) {
+            self.push_two(now, stray, packet)?;
+        } else if has_room && self.buffer.are_beyond(packet.sequence, stray.sequence) {
+            self.push_two(now, packet, stray)?;
+        } else {
+            let _ = self.try_push(now, packet)?;
+        }
+        Ok(true)
+    }
+
+    /// Takes two packets that come behind all others. Without memory for both all stays as it was.
+    fn push_two(
+        &mut self,
+        now: u32,
+        first: &RtpPacket<'_>,
+        second: &RtpPacket<'_>,
+    ) -> Result<(), AllocError> {
+        let Some(with_first) = self.bytes.checked_add(first.payload.len()) else {
+            return Err(AllocError);
+        };
+        let Some(bytes) = with_first.checked_add(second.payload.len()) else {
+            return Err(AllocError);
+        };
+        self.arrivals.try_reserve(2)?;
+        self.buffer.push_two(first, second)?;
+        self.bytes = bytes;
+        self.from = from_at(&self.arrivals, self.from, self.buffer.due());
+        self.arrivals.push_back(Arrival {
+            number: first.sequence,
+            at: now,
+        });
+        self.arrivals.push_back(Arrival {
+            number: second.sequence,
+            at: now,
+        });
+        Ok(())
     }
 
     /// Takes a packet that has memory of its own, and copies nothing of it. One that doesn't wait comes
@@ -254,7 +350,7 @@ impl JitterBuffer {
 
     /// The number from which on others may be missing: of a stream that begins that of the first
     /// packet that waits.
-    fn awaited(&self) -> Option<u16> {
+    pub(crate) fn awaited(&self) -> Option<u16> {
         if self.has_begun {
             return self.buffer.due();
         }

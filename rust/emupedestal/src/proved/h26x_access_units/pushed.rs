@@ -13,11 +13,15 @@ pub enum Pushed {
     /// It is dropped: its number is so far behind the one that is due.
     Late(u16),
 
-    /// It is dropped: a packet with its number waits.
+    /// It is dropped: a packet with its number waits, or was taken and is among the last 1024.
     Twice,
 
-    /// It waits alone, in the place of another one: its number is too far from the one that is due.
+    /// It waits alone, in the place of another one: its number is too far from the one that is due, or
+    /// more than a window, and than 100, ahead of those that wait.
     Stray,
+
+    /// It is so far ahead too, and near the one that waited alone: both wait.
+    Jumped,
 
     /// It follows the one that waited alone: the stream begins anew with both. What waited of the old
     /// numbers is dropped.
@@ -33,7 +37,7 @@ pub enum NotPushedReason {
     /// Its number is so far behind the one that is due.
     Late(u16),
 
-    /// A packet with its number waits.
+    /// A packet with its number waits, or was taken and is among the last 1024.
     Twice,
 
     /// More bytes wait than the limit. The caller is to take access units first.

@@ -11,13 +11,16 @@ use crate::proved::h26x_access_units::due::{
 use crate::proved::h26x_access_units::framing::Framing;
 use crate::proved::h26x_access_units::jitter::JitterBuffer;
 use crate::proved::h26x_access_units::numbers::NumbersSoFar;
+use crate::proved::h26x_access_units::passed::PassedNumbers;
 use crate::proved::h26x_access_units::pushed::{NotPushed, NotPushedReason, Pushed};
 use crate::proved::h26x_access_units::unit::{self, ReceivedAccessUnit};
+use crate::proved::h26x_access_units::way::Way;
 use crate::proved::h26x_assembler::{AccessUnit, AccessUnitAssembler};
 use crate::proved::h26x_core::PacketError;
 use crate::proved::h26x_depacketizer::RunDepacketizer;
 use crate::proved::h26x_receiver::SequencedDepacketizer;
 use crate::proved::h26x_reorder::{HeldPacket, RtpPacket};
+use crate::support::AllocError;
 use crate::support::TryVec;
 use alloc::vec::Vec;
 
@@ -27,6 +30,7 @@ pub struct AccessUnitReceiver<D: RunDepacketizer> {
     waiting: JitterBuffer,
     stray: Option<HeldPacket>,
     is_anew: bool,
+    passed: PassedNumbers,
     assembler: AccessUnitAssembler<D>,
     ended: Vec<AccessUnit>,
     framing: Framing,
@@ -34,6 +38,25 @@ pub struct AccessUnitReceiver<D: RunDepacketizer> {
     decoder: DecoderState,
     counts: Counts,
 }
+
+/// What waits of a stream that begins anew with these two packets: both, whatever the limit.
+fn anew_with(
+    now: u32,
+    config: AccessUnitConfig,
+    stray: &RtpPacket<'_>,
+    packet: &RtpPacket<'_>,
+) -> Result<JitterBuffer, AllocError> {
+    let unlimited = AccessUnitConfig {
+        held_limit: usize::MAX,
+        ..config
+    };
+    let mut waiting = JitterBuffer::new(unlimited);
+    let _ = waiting.try_push(now, stray)?;
+    let _ = waiting.try_push(now, packet)?;
+    waiting.set_held_limit(config.held_limit);
+    Ok(waiting)
+}
+
 /// What a receiver is to contracts.
 pub trait Receives {
     /// What it has counted.
@@ -55,6 +78,7 @@ impl<D: RunDepacketizer> AccessUnitReceiver<D> {
             waiting: JitterBuffer::new(config),
             stray: None,
             is_anew: false,
+            passed: PassedNumbers::none(),
             assembler: AccessUnitAssembler::new(packets, config.unit_limit),
             ended: Vec::new(),
             framing: Framing::fresh(),
@@ -62,6 +86,22 @@ impl<D: RunDepacketizer> AccessUnitReceiver<D> {
             decoder: DecoderState::fresh(),
             counts: Counts::none(),
         }
+    }
+
+    /// The settings.
+    pub fn config(&self) -> AccessUnitConfig {
+        AccessUnitConfig {
+            run_limit: self.assembler.packets.run_limit,
+            unit_limit: self.assembler.unit_limit,
+            ..self.waiting.config()
+        }
+    }
+
+    /// Has other settings from now on, for what waits and what is open too. It takes no memory.
+    pub(crate) fn set_config(&mut self, config: AccessUnitConfig) {
+        self.waiting.set_config(config);
+        self.assembler.packets.run_limit = config.run_limit;
+        self.assembler.unit_limit = config.unit_limit;
     }
 
     /// Takes a packet that came at this tick, and copies it if it is to wait: the one that is due is
@@ -79,12 +119,31 @@ impl<D: RunDepacketizer> AccessUnitReceiver<D> {
     /// Takes a packet that isn't taken at once.
     #[inline(never)]
     fn push_aside(&mut self, now: u32, packet: &RtpPacket<'_>) -> Result<Pushed, PacketError> {
-        if self.waiting.is_far(packet.sequence) {
-            return self.push_far(now, packet);
-        }
-        let pushed = self.waiting.try_push(now, packet)?;
+        let pushed = match self.way_of(packet.sequence) {
+            Way::Repeat => Pushed::Twice,
+            Way::Far => return self.push_far(now, packet),
+            Way::Ahead => return self.push_ahead(now, packet),
+            Way::Window => self.waiting.try_push(now, packet)?,
+        };
         self.counts.try_push(pushed);
         Ok(pushed)
+    }
+
+    /// What a number is to what the stream passed and to what waits.
+    fn way_of(&self, number: u16) -> Way {
+        let due = self.waiting.due();
+        if self.passed.has_passed(due, number) {
+            if self.passed.has_taken(due, number) {
+                return Way::Repeat;
+            }
+        } else if self.waiting.is_far(number) {
+            return Way::Far;
+        }
+        if self.waiting.is_ahead(number) {
+            Way::Ahead
+        } else {
+            Way::Window
+        }
     }
 
     /// Whether a packet is taken at once.
@@ -118,6 +177,7 @@ impl<D: RunDepacketizer> AccessUnitReceiver<D> {
             return Err(PacketError::OutOfMemory);
         }
         self.waiting.pass(sequence);
+        self.passed.take(sequence, sequence);
         Ok(())
     }
 
@@ -139,32 +199,43 @@ impl<D: RunDepacketizer> AccessUnitReceiver<D> {
     fn push_far(&mut self, now: u32, packet: &RtpPacket<'_>) -> Result<Pushed, PacketError> {
         match &self.stray {
             Some(stray) if packet.sequence == stray.sequence.wrapping_add(1) => {
-                // (both wait, whatever the limit)
-                let config = self.waiting.config();
-                let mut waiting = JitterBuffer::new(AccessUnitConfig {
-                    held_limit: usize::MAX,
-                    ..config
-                });
-                let _ = waiting.try_push(now, &stray.packet())?;
-                let _ = waiting.try_push(now, packet)?;
-                waiting.set_held_limit(config.held_limit);
+                let stray = stray.packet();
+                let waiting = anew_with(now, self.waiting.config(), &stray, packet)?;
                 self.counts.try_push(Pushed::Anew);
                 self.counts.drop(self.waiting.len());
                 self.waiting = waiting;
                 self.stray = None;
                 self.is_anew = true;
+                self.passed = PassedNumbers::none();
                 Ok(Pushed::Anew)
             }
-            _ => {
-                self.stray = Some(HeldPacket::new(
-                    packet.sequence,
-                    packet.timestamp,
-                    packet.marker,
-                    Vec::try_from_slice(packet.payload)?,
-                ));
-                self.counts.try_push(Pushed::Stray);
-                Ok(Pushed::Stray)
+            _ => self.put_alone(packet),
+        }
+    }
+
+    /// Has a packet wait alone.
+    fn put_alone(&mut self, packet: &RtpPacket<'_>) -> Result<Pushed, PacketError> {
+        self.stray = Some(HeldPacket::new(
+            packet.sequence,
+            packet.timestamp,
+            packet.marker,
+            Vec::try_from_slice(packet.payload)?,
+        ));
+        self.counts.try_push(Pushed::Stray);
+        Ok(Pushed::Stray)
+    }
+
+    /// Takes a packet that is more than a window ahead.
+    fn push_ahead(&mut self, now: u32, packet: &RtpPacket<'_>) -> Result<Pushed, PacketError> {
+        match &self.stray {
+            Some(stray) if self.waiting.is_near(stray.sequence, packet.sequence) => {
+                if !self.waiting.push_with(now, &stray.packet(), packet)? {
+                    return Ok(Pushed::Full);
+                }
+                self.stray = None;
+                Ok(Pushed::Jumped)
             }
+            _ => self.put_alone(packet),
         }
     }
 
@@ -174,15 +245,32 @@ impl<D: RunDepacketizer> AccessUnitReceiver<D> {
         if self.takes_at_once(&packet.packet()) {
             return self.take_held_at_once(packet);
         }
-        if self.waiting.is_far(packet.sequence) {
-            return match self.push_far(now, &packet.packet()) {
-                Ok(pushed) => Ok(pushed),
-                Err(_) => Err(NotPushed {
-                    packet,
-                    reason: NotPushedReason::OutOfMemory,
-                }),
-            };
+        self.push_held_aside(now, packet)
+    }
+
+    /// Takes a packet that has memory of its own and isn't taken at once.
+    fn push_held_aside(&mut self, now: u32, packet: HeldPacket) -> Result<Pushed, NotPushed> {
+        let pushed = match self.way_of(packet.sequence) {
+            Way::Repeat => return Err(self.refuse(packet, NotPushedReason::Twice)),
+            Way::Far => self.push_far(now, &packet.packet()),
+            Way::Ahead => self.push_ahead(now, &packet.packet()),
+            Way::Window => return self.push_within(now, packet),
+        };
+        match pushed {
+            Ok(Pushed::Full) => Err(self.refuse(packet, NotPushedReason::Full)),
+            Ok(pushed) => Ok(pushed),
+            Err(_) => Err(self.refuse(packet, NotPushedReason::OutOfMemory)),
         }
+    }
+
+    /// Counts a packet that comes back with this reason.
+    fn refuse(&mut self, packet: HeldPacket, reason: NotPushedReason) -> NotPushed {
+        self.counts.not_pushed(reason);
+        NotPushed { packet, reason }
+    }
+
+    /// Takes a packet that has memory of its own and is within the window, or late.
+    fn push_within(&mut self, now: u32, packet: HeldPacket) -> Result<Pushed, NotPushed> {
         match self.waiting.push_held(now, packet) {
             Ok(()) => Ok(Pushed::Held),
             Err(not_pushed) => {
@@ -232,6 +320,7 @@ impl<D: RunDepacketizer> AccessUnitReceiver<D> {
             Some(held) => held.packet(),
             None => return Ok(false),
         };
+        let number = packet.sequence;
         let received = take_begun(
             &mut self.assembler,
             &mut self.ended,
@@ -243,6 +332,8 @@ impl<D: RunDepacketizer> AccessUnitReceiver<D> {
         if is_want_of_memory(&received) {
             return Err(PacketError::OutOfMemory);
         }
+        self.passed
+            .take(self.waiting.awaited().unwrap_or(0), number);
         self.waiting.drop_first();
         Ok(true)
     }
@@ -321,6 +412,7 @@ impl<D: RunDepacketizer> AccessUnitReceiver<D> {
             self.numbers.finish();
             self.waiting.restart();
             self.stray = None;
+            self.passed = PassedNumbers::none();
         }
         Ok(())
     }
@@ -393,6 +485,7 @@ impl<D: RunDepacketizer> AccessUnitReceiver<D> {
         self.waiting.restart();
         self.stray = None;
         self.is_anew = false;
+        self.passed = PassedNumbers::none();
         self.assembler.restart();
         self.ended.clear();
         self.framing = Framing::fresh();

@@ -25,9 +25,10 @@ pub struct ReceivedAccessUnit {
     pub is_whole: bool,
     /// Whether a decoder can show it: nothing of it is missing, nor was since a keyframe with which a
     /// decoder can begin, or it is one, which came from its first slice on, with its parameter sets in
-    /// it or before it in order. Pictures that are disposable may be missing in part; parameter sets
-    /// that are lost with them aren't noticed. RASL pictures behind a CRA with which a decoder begins,
-    /// which it passes over, are clean too.
+    /// it or before it in order. Pictures that are disposable may be missing in part, and packets that
+    /// by frame numbers of H.264 bore no reference picture, as of FEC. Parameter sets that are lost so
+    /// aren't noticed, nor is a keyframe of one packet right behind one of several. RASL pictures
+    /// behind a CRA with which a decoder begins, which it passes over, are clean too.
     pub is_clean: bool,
     /// Whether no other picture refers to its own: where something is missing in it, those after it
     /// can be clean.

@@ -73,6 +73,17 @@ impl HeldPacket {
     }
 }
 
+/// A copy of a packet, in memory that is kept, where there is some.
+#[inline]
+fn copy_of(spare: &mut SparePayloads, packet: &RtpPacket<'_>) -> Result<HeldPacket, AllocError> {
+    Ok(HeldPacket::new(
+        packet.sequence,
+        packet.timestamp,
+        packet.marker,
+        spare.copy(packet.payload)?,
+    ))
+}
+
 /// Why a packet that was given to a buffer by value isn't held.
 #[derive(Debug, Clone, Copy, PartialEq, Eq, Hash)]
 pub enum NotHeldReason {
@@ -133,6 +144,17 @@ impl ReorderBuffer {
             held: NumberOrder::new(window),
             spare: SparePayloads::none(),
         }
+    }
+
+    /// Has a window of so many packets from now on, 1 to 2^14.
+    ///
+    /// # Panics
+    ///
+    /// Unless `0 < window` and `window <= 16384`.
+    pub fn set_window(&mut self, window: u16) {
+        assert!(0 < window);
+        assert!(window <= 16384);
+        self.held.set_window(window);
     }
 
     /// How many packets it holds.
@@ -197,11 +219,9 @@ impl ReorderBuffer {
     /// Takes a packet, and copies it. Without memory the buffer stays as it was, and the packet can be
     /// given again. One that is late or comes twice takes no memory.
     pub(crate) fn try_push(&mut self, packet: &RtpPacket<'_>) -> Result<Pushed, AllocError> {
-        let sequence = packet.sequence;
-        match self.held.place_of(sequence) {
+        match self.held.place_of(packet.sequence) {
             Ok((due, place)) => {
-                let payload = self.spare.copy(packet.payload)?;
-                let held = HeldPacket::new(sequence, packet.timestamp, packet.marker, payload);
+                let held = copy_of(&mut self.spare, packet)?;
                 self.held.put(due, place, held)?;
                 Ok(Pushed::Held)
             }
@@ -225,6 +245,35 @@ impl ReorderBuffer {
                 reason: reason_of(answer),
             }),
         }
+    }
+
+    /// The number of the last of the packets held, or the one that is due where none is.
+    pub fn newest(&self, due: u16) -> u16 {
+        self.held.newest(due)
+    }
+
+    /// Whether a number is ahead of all packets that are held, and not late. None is before a packet
+    /// came.
+    pub fn is_beyond(&self, number: u16) -> bool {
+        self.held.is_beyond(number)
+    }
+
+    /// Whether two numbers, the second ahead of the first, are ahead of all packets that are held, and
+    /// not late.
+    pub fn are_beyond(&self, first: u16, second: u16) -> bool {
+        self.held.are_beyond(first, second)
+    }
+
+    /// Takes two packets that come behind all others, and copies both. Without memory for both the
+    /// buffer stays as it was.
+    pub(crate) fn push_two(
+        &mut self,
+        first: &RtpPacket<'_>,
+        second: &RtpPacket<'_>,
+    ) -> Result<(), AllocError> {
+        let first = copy_of(&mut self.spare, first)?;
+        let second = copy_of(&mut self.spare, second)?;
+        self.held.put_two(first, second)
     }
 
     /// The first of the packets held, if it may go: the one that is due, or one that the window has

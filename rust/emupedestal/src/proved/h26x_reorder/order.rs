@@ -6,7 +6,7 @@ use crate::proved::h26x_core::is_next;
 use crate::proved::h26x_reorder::numbered::Numbered;
 use crate::proved::h26x_reorder::parted::Parted;
 use crate::proved::h26x_reorder::pushed::Pushed;
-use crate::support::AllocFailed;
+use crate::support::{AllocError, AllocFailed};
 
 /// How far ahead of the number that is due a number is taken as behind it: half of the circle (RFC
 /// 1982, 3.2).
@@ -28,6 +28,11 @@ impl<T: Numbered> NumberOrder<T> {
             due: None,
             held: Parted::new(),
         }
+    }
+
+    /// Has another window from now on.
+    pub(crate) fn set_window(&mut self, window: u16) {
+        self.window = window;
     }
 
     /// How many packets it holds.
@@ -122,6 +127,42 @@ impl<T: Numbered> NumberOrder<T> {
     pub(crate) fn put(&mut self, due: u16, place: usize, packet: T) -> Result<(), AllocFailed<T>> {
         self.held.try_insert(place, packet)?;
         self.due = Some(due);
+        Ok(())
+    }
+
+    /// The number of the last packet, or the one that is due where there is none.
+    pub(crate) fn newest(&self, due: u16) -> u16 {
+        match self.len() {
+            0 => due,
+            len => self.number_at(len - 1),
+        }
+    }
+
+    /// Whether a number is ahead of all packets, and not late.
+    pub(crate) fn is_beyond(&self, number: u16) -> bool {
+        match self.due {
+            Some(due) => {
+                let ahead = number.wrapping_sub(due);
+                self.newest(due).wrapping_sub(due) < ahead && ahead < HALF
+            }
+            None => false,
+        }
+    }
+
+    /// Whether two numbers, the second ahead of the first, are ahead of all packets, and not late.
+    pub(crate) fn are_beyond(&self, first: u16, second: u16) -> bool {
+        match self.due {
+            Some(due) if self.is_beyond(first) => {
+                let ahead = second.wrapping_sub(due);
+                first.wrapping_sub(due) < ahead && ahead < HALF
+            }
+            _ => false,
+        }
+    }
+
+    /// Puts two packets behind all others. Without memory for both all stays as it was.
+    pub(crate) fn put_two(&mut self, first: T, second: T) -> Result<(), AllocError> {
+        self.held.push_two(first, second)?;
         Ok(())
     }
 

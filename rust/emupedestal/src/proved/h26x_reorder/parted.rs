@@ -2,8 +2,8 @@
 
 //! A list in two parts, which is parted where values come again and again.
 
-use crate::support::AllocFailed;
 use crate::support::TryDeque;
+use crate::support::{AllocError, AllocFailed};
 use alloc::collections::VecDeque;
 use core::mem;
 
@@ -100,6 +100,14 @@ impl<T> Parted<T> {
             return self.front.try_push_back(value);
         }
         self.insert_within(place, value)
+    }
+
+    /// Puts two values last of all, one behind the other. Without memory for both all stays as it was.
+    pub(crate) fn push_two(&mut self, first: T, second: T) -> Result<(), AllocError> {
+        self.back.try_reserve(2)?;
+        self.back.push_back(first);
+        self.back.push_back(second);
+        Ok(())
     }
 
     /// So of one that others may stand behind, or before which there is a back.

@@ -6,7 +6,7 @@ use crate::proved::h26x_access_units::{self, AccessUnitConfig};
 use crate::proved::h26x_c::const_handle::ConstHandle;
 use crate::proved::h26x_c::handle::Handle;
 use crate::proved::h26x_c::place::{Place, put};
-use crate::proved::h26x_codes::code::{OK, OUT_OF_MEMORY, WRONG_END};
+use crate::proved::h26x_codes::code::{OK, OUT_OF_MEMORY, OUT_OF_RANGE, WRONG_END};
 use crate::proved::h26x_endpoint::endpoint::Endpoint;
 use crate::proved::h26x_handles::access_units::{
     AccessUnitEndpoint, GivesUnits, UnitTold, code_of_next, numbers_of_push, units_codec_wanted,
@@ -23,6 +23,7 @@ pub struct Config {
     pub begin_wait: u32,
     pub window: u16,
     pub far_away: u16,
+    pub far_behind: u16,
     pub numbers: bool,
     pub avc: bool,
     pub has_sets: bool,
@@ -57,6 +58,7 @@ fn settings(config: &Config) -> AccessUnitConfig {
     AccessUnitConfig {
         window: config.window,
         far: config.far_away,
+        far_behind: config.far_behind,
         max_wait: config.max_wait,
         begin_wait: config.begin_wait,
         held_limit: config.held_limit,
@@ -106,6 +108,17 @@ pub fn h26x_access_units_new(config: &Config, made: &mut MaybeUninit<Place>) -> 
 /// Frees a receiver of access units.
 pub fn h26x_access_units_free(u: Handle) {
     drop(u.into_box());
+}
+
+/// Has other settings from now on, but for its codec, and how packets and units are written.
+pub fn h26x_access_units_set_config(u: &mut Handle, config: &Config) -> u32 {
+    match u.get_mut() {
+        Endpoint::AccessUnits(it) => match it.set_config(settings(config)) {
+            true => OK,
+            false => OUT_OF_RANGE,
+        },
+        _ => WRONG_END,
+    }
 }
 
 /// Takes a packet that came at this tick.

@@ -35,6 +35,20 @@ pub unsafe extern "C" fn h26x_access_units_free(u: Handle) {
 }
 
 #[unsafe(no_mangle)]
+pub unsafe extern "C" fn h26x_access_units_set_config(
+    u: *mut Handle,
+    config: *const Config,
+) -> u32 {
+    // SAFETY: a caller owes what the header says.
+    unsafe {
+        super::access_units::h26x_access_units_set_config(
+            pointers::lent(u),
+            pointers::shared(config),
+        )
+    }
+}
+
+#[unsafe(no_mangle)]
 pub unsafe extern "C" fn h26x_access_units_push(
     u: *mut Handle,
     now: u32,

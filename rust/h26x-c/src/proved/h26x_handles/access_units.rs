@@ -51,7 +51,7 @@ pub fn units_codec_wanted(number: u32, has_donl: bool, window: u16) -> Result<Co
     Ok(codec)
 }
 
-/// The numbers of what became of a packet: which of the six it is, and how far it is behind.
+/// The numbers of what became of a packet: which of the seven it is, and how far it is behind.
 pub fn numbers_of_push(pushed: Pushed) -> (u32, u16) {
     match pushed {
         Pushed::Held => (0, 0),
@@ -60,6 +60,7 @@ pub fn numbers_of_push(pushed: Pushed) -> (u32, u16) {
         Pushed::Full => (3, 0),
         Pushed::Stray => (4, 0),
         Pushed::Anew => (5, 0),
+        Pushed::Jumped => (6, 0),
     }
 }
 
@@ -130,6 +131,16 @@ impl AccessUnitEndpoint {
             receiver: AccessUnitReceiver::new(depacketizer, config),
             left: None,
         }
+    }
+
+    /// Has other settings from now on; the answer is whether the window is in range, where nothing
+    /// changes if not.
+    pub fn set_config(&mut self, config: AccessUnitConfig) -> bool {
+        if config.window == 0 || config.window > 1 << 14 {
+            return false;
+        }
+        self.receiver.set_config(config);
+        true
     }
 
     /// Takes a packet that came at this tick, and copies it where it waits. Without memory all stays as

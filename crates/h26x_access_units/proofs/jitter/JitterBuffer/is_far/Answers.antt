@@ -10,7 +10,8 @@ returns-in_default c =
     let due = c.in-Some.due in
     let number = c.args.number in
     let far = c.self.inside.config.far in
+    let behind = c.self.inside.config.far_behind in
     let is : b.due ≡ Some due = search rules in
     let small : number < 65536 = search rules in
     let near : distance_ahead due number < far = search rules in
-    subst (λ (j : JitterState). false ≡ is_far j.config.far j.buffer number) c.self.view_is (sym (near_not_far far b due number is c.self.invariant.order small near))
+    subst (λ (j : JitterState). false ≡ is_far j.config.far j.config.far_behind j.buffer number) c.self.view_is (sym (near_not_far far behind b due number is c.self.invariant.order small near))

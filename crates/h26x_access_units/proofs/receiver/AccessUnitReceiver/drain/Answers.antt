@@ -32,6 +32,6 @@ loop-self-smaller g c =
     let it = c.loop-self.self in
     let bare = c.drop_bare.new.self in
     let new = c.step.new.self in
-    bare_step_falls c.args.now (reception it.waiting (option_map numbered_packet it.stray) it.is_anew (open_assembly (g.D.RunDepacketizer.state it.assembler.packets.depacketizer) it.assembler.packets.expected it.assembler.unit (map access_unit_value it.ended.items)) it.framing it.numbers it.decoder it.counts it.assembler.packets.run_limit it.assembler.unit_limit) (reception bare.waiting (option_map numbered_packet bare.stray) bare.is_anew (open_assembly (g.D.RunDepacketizer.state bare.assembler.packets.depacketizer) bare.assembler.packets.expected bare.assembler.unit (map access_unit_value bare.ended.items)) bare.framing bare.numbers bare.decoder bare.counts bare.assembler.packets.run_limit bare.assembler.unit_limit) (reception new.waiting (option_map numbered_packet new.stray) new.is_anew (open_assembly (g.D.RunDepacketizer.state new.assembler.packets.depacketizer) new.assembler.packets.expected new.assembler.unit (map access_unit_value new.ended.items)) new.framing new.numbers new.decoder new.counts new.assembler.packets.run_limit new.assembler.unit_limit)
+    bare_step_falls c.args.now (reception it.waiting (option_map numbered_packet it.stray) it.is_anew it.passed (open_assembly (g.D.RunDepacketizer.state it.assembler.packets.depacketizer) it.assembler.packets.expected it.assembler.unit (map access_unit_value it.ended.items)) it.framing it.numbers it.decoder it.counts it.assembler.packets.run_limit it.assembler.unit_limit) (reception bare.waiting (option_map numbered_packet bare.stray) bare.is_anew bare.passed (open_assembly (g.D.RunDepacketizer.state bare.assembler.packets.depacketizer) bare.assembler.packets.expected bare.assembler.unit (map access_unit_value bare.ended.items)) bare.framing bare.numbers bare.decoder bare.counts bare.assembler.packets.run_limit bare.assembler.unit_limit) (reception new.waiting (option_map numbered_packet new.stray) new.is_anew new.passed (open_assembly (g.D.RunDepacketizer.state new.assembler.packets.depacketizer) new.assembler.packets.expected new.assembler.unit (map access_unit_value new.ended.items)) new.framing new.numbers new.decoder new.counts new.assembler.packets.run_limit new.assembler.unit_limit)
     c.drop_bare.ensures.after (none_is_left (map access_unit_value c.drop_bare.new.self.ended.items) c.drop_bare.result c.drop_bare.ensures.none c.loop-self-test.true)
     (where_true c.in_ok-step.field-0 _ _ c.in_ok-step.ensures.step c.if-branch.true)

@@ -11,7 +11,7 @@ use Rattle.h26x_access_units.proofs.receiver.AccessUnitReceiver.end_before.Goals
 pub returns-then-not-ends_before-clause-ended : goal.returns-then-not-ends_before-clause-ended
 returns-then-not-ends_before-clause-ended g c =
     let old = c.args.self.now in
-    let s = reception old.waiting (option_map numbered_packet old.stray) old.is_anew (assembly_at g.D.RunDepacketizer.state old.assembler old.ended.items) old.framing old.numbers old.decoder old.counts old.assembler.packets.run_limit old.assembler.unit_limit in
+    let s = reception old.waiting (option_map numbered_packet old.stray) old.is_anew old.passed (assembly_at g.D.RunDepacketizer.state old.assembler old.ended.items) old.framing old.numbers old.decoder old.counts old.assembler.packets.run_limit old.assembler.unit_limit in
     let p = c.packet-packet.result in
     let due : due_packet c.args.now s.waiting ≡ Some p = sym c.in-Some.ensures ∙ ap (λ (q : ℕ × RtpBody). Some q) (sym c.packet-packet.ensures) in
     let is : ends_before s.assembler s.framing p ≡ false = sym (c.ends_before.ensures old.ended.items) ∙ c.if-not-ends_before.true in
@@ -20,7 +20,7 @@ returns-then-not-ends_before-clause-ended g c =
 pub returns-in_ok-finish-clause-ended : goal.returns-in_ok-finish-clause-ended
 returns-in_ok-finish-clause-ended g c =
     let old = c.args.self.now in
-    let s = reception old.waiting (option_map numbered_packet old.stray) old.is_anew (assembly_at g.D.RunDepacketizer.state old.assembler old.ended.items) old.framing old.numbers old.decoder old.counts old.assembler.packets.run_limit old.assembler.unit_limit in
+    let s = reception old.waiting (option_map numbered_packet old.stray) old.is_anew old.passed (assembly_at g.D.RunDepacketizer.state old.assembler old.ended.items) old.framing old.numbers old.decoder old.counts old.assembler.packets.run_limit old.assembler.unit_limit in
     let p = c.packet-packet.result in
     let gap : is_behind_missing s.assembler p.0 ≡ true = sym (c.is_behind_missing.ensures old.ended.items ∙ ap (λ (q : ℕ × RtpBody). is_behind_missing s.assembler q.0) c.packet.view_is) ∙ c.if-is_behind_missing.true in
     record {
@@ -34,7 +34,7 @@ returns-in_ok-finish-clause-ended g c =
 pub returns-in_ok-end-clause-ended : goal.returns-in_ok-end-clause-ended
 returns-in_ok-end-clause-ended g c =
     let old = c.args.self.now in
-    let s = reception old.waiting (option_map numbered_packet old.stray) old.is_anew (assembly_at g.D.RunDepacketizer.state old.assembler old.ended.items) old.framing old.numbers old.decoder old.counts old.assembler.packets.run_limit old.assembler.unit_limit in
+    let s = reception old.waiting (option_map numbered_packet old.stray) old.is_anew old.passed (assembly_at g.D.RunDepacketizer.state old.assembler old.ended.items) old.framing old.numbers old.decoder old.counts old.assembler.packets.run_limit old.assembler.unit_limit in
     let p = c.packet-packet.result in
     let clear : is_behind_missing s.assembler p.0 ≡ false = sym (c.is_behind_missing.ensures old.ended.items ∙ ap (λ (q : ℕ × RtpBody). is_behind_missing s.assembler q.0) c.packet.view_is) ∙ c.if-is_behind_missing.false in
     record {

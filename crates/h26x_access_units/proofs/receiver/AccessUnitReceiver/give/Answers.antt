@@ -15,7 +15,7 @@ use Rattle.h26x_access_units.proofs.receiver.AccessUnitReceiver.give.Goals as go
 pub returns-clause-unit : goal.returns-clause-unit
 returns-clause-unit g c =
     let old = c.args.self.now in
-    let s = reception old.waiting (option_map numbered_packet old.stray) old.is_anew (assembly_at g.D.RunDepacketizer.state old.assembler old.ended.items) old.framing old.numbers old.decoder old.counts old.assembler.packets.run_limit old.assembler.unit_limit in
+    let s = reception old.waiting (option_map numbered_packet old.stray) old.is_anew old.passed (assembly_at g.D.RunDepacketizer.state old.assembler old.ended.items) old.framing old.numbers old.decoder old.counts old.assembler.packets.run_limit old.assembler.unit_limit in
     let unit = access_unit_value c.remove-unit.result in
     let some : (length old.ended.items == 0) ≡ false = search rules in
     let front = front_removed old.ended.items c.remove-unit.new.self.items c.remove-unit.result some c.remove-unit.ensures.value c.remove-unit.ensures.items in
@@ -29,7 +29,7 @@ returns-clause-unit g c =
 pub returns-clause-after : goal.returns-clause-after
 returns-clause-after g c =
     let old = c.args.self.now in
-    let s = reception old.waiting (option_map numbered_packet old.stray) old.is_anew (assembly_at g.D.RunDepacketizer.state old.assembler old.ended.items) old.framing old.numbers old.decoder old.counts old.assembler.packets.run_limit old.assembler.unit_limit in
+    let s = reception old.waiting (option_map numbered_packet old.stray) old.is_anew old.passed (assembly_at g.D.RunDepacketizer.state old.assembler old.ended.items) old.framing old.numbers old.decoder old.counts old.assembler.packets.run_limit old.assembler.unit_limit in
     let unit = access_unit_value c.remove-unit.result in
     let some : (length old.ended.items == 0) ≡ false = search rules in
     let front = front_removed old.ended.items c.remove-unit.new.self.items c.remove-unit.result some c.remove-unit.ensures.value c.remove-unit.ensures.items in

@@ -10,12 +10,12 @@ use Rattle.h26x_access_units.proofs.receiver.AccessUnitReceiver.push.Goals as go
 pub returns-then-takes_at_once-clause-bounded : goal.returns-then-takes_at_once-clause-bounded
 returns-then-takes_at_once-clause-bounded g c =
     let old = c.args.self.now in
-    let s = reception old.waiting (option_map numbered_packet old.stray) old.is_anew (assembly_at g.D.RunDepacketizer.state old.assembler old.ended.items) old.framing old.numbers old.decoder old.counts old.assembler.packets.run_limit old.assembler.unit_limit in
+    let s = reception old.waiting (option_map numbered_packet old.stray) old.is_anew old.passed (assembly_at g.D.RunDepacketizer.state old.assembler old.ended.items) old.framing old.numbers old.decoder old.counts old.assembler.packets.run_limit old.assembler.unit_limit in
     let is = sym c.in_ok-take_at_once.ensures.held in
     pushed_within c.args.now s _ c.args.packet.now pushes.Held is (search rules)
 
 pub returns-clause-bounded : goal.returns-clause-bounded
 returns-clause-bounded g c =
     let old = c.args.self.now in
-    let s = reception old.waiting (option_map numbered_packet old.stray) old.is_anew (assembly_at g.D.RunDepacketizer.state old.assembler old.ended.items) old.framing old.numbers old.decoder old.counts old.assembler.packets.run_limit old.assembler.unit_limit in
+    let s = reception old.waiting (option_map numbered_packet old.stray) old.is_anew old.passed (assembly_at g.D.RunDepacketizer.state old.assembler old.ended.items) old.framing old.numbers old.decoder old.counts old.assembler.packets.run_limit old.assembler.unit_limit in
     far_within c.args.now s _ c.args.packet.now c.push_aside.result c.push_aside.ensures.answer c.push_aside.ensures.after c.push_aside.ensures.kept

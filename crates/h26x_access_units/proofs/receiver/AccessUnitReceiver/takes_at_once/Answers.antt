@@ -11,20 +11,20 @@ use Rattle.h26x_access_units.proofs.receiver.AccessUnitReceiver.takes_at_once.Go
 pub returns-then-is_behind_missing : goal.returns-then-is_behind_missing
 returns-then-is_behind_missing g c =
     let old = c.args.self.now in
-    let s = reception old.waiting (option_map numbered_packet old.stray) old.is_anew (assembly_at g.D.RunDepacketizer.state old.assembler old.ended.items) old.framing old.numbers old.decoder old.counts old.assembler.packets.run_limit old.assembler.unit_limit in
+    let s = reception old.waiting (option_map numbered_packet old.stray) old.is_anew old.passed (assembly_at g.D.RunDepacketizer.state old.assembler old.ended.items) old.framing old.numbers old.decoder old.counts old.assembler.packets.run_limit old.assembler.unit_limit in
     let at = c.is_behind_missing.ensures old.ended.items ∙ ap (λ (q : ℕ × RtpBody). is_behind_missing s.assembler q.0) c.packet.view_is in
     sym (not_at_once s c.args.packet.now (sym at ∙ c.if-is_behind_missing.true))
 
 pub returns-then-ends_before : goal.returns-then-ends_before
 returns-then-ends_before g c =
     let old = c.args.self.now in
-    let s = reception old.waiting (option_map numbered_packet old.stray) old.is_anew (assembly_at g.D.RunDepacketizer.state old.assembler old.ended.items) old.framing old.numbers old.decoder old.counts old.assembler.packets.run_limit old.assembler.unit_limit in
+    let s = reception old.waiting (option_map numbered_packet old.stray) old.is_anew old.passed (assembly_at g.D.RunDepacketizer.state old.assembler old.ended.items) old.framing old.numbers old.decoder old.counts old.assembler.packets.run_limit old.assembler.unit_limit in
     sym (not_before_end s c.args.packet.now (sym (c.ends_before.ensures old.ended.items) ∙ c.if-ends_before.true))
 
 pub returns-then-none_ended : goal.returns-then-none_ended
 returns-then-none_ended g c =
     let old = c.args.self.now in
-    let s = reception old.waiting (option_map numbered_packet old.stray) old.is_anew (assembly_at g.D.RunDepacketizer.state old.assembler old.ended.items) old.framing old.numbers old.decoder old.counts old.assembler.packets.run_limit old.assembler.unit_limit in
+    let s = reception old.waiting (option_map numbered_packet old.stray) old.is_anew old.passed (assembly_at g.D.RunDepacketizer.state old.assembler old.ended.items) old.framing old.numbers old.decoder old.counts old.assembler.packets.run_limit old.assembler.unit_limit in
     let p = c.args.packet.now in
     let straight = sym (c.goes_straight.ensures ∙ ap (λ (q : ℕ × RtpBody). goes_straight s.waiting.buffer q.0) c.packet.view_is) ∙ c.if-not-goes_straight.false in
     let follows = sym (c.is_behind_missing.ensures old.ended.items ∙ ap (λ (q : ℕ × RtpBody). is_behind_missing s.assembler q.0) c.packet.view_is) ∙ c.if-is_behind_missing.false in
@@ -35,7 +35,7 @@ returns-then-none_ended g c =
 pub returns-else-none_ended : goal.returns-else-none_ended
 returns-else-none_ended g c =
     let old = c.args.self.now in
-    let s = reception old.waiting (option_map numbered_packet old.stray) old.is_anew (assembly_at g.D.RunDepacketizer.state old.assembler old.ended.items) old.framing old.numbers old.decoder old.counts old.assembler.packets.run_limit old.assembler.unit_limit in
+    let s = reception old.waiting (option_map numbered_packet old.stray) old.is_anew old.passed (assembly_at g.D.RunDepacketizer.state old.assembler old.ended.items) old.framing old.numbers old.decoder old.counts old.assembler.packets.run_limit old.assembler.unit_limit in
     let p = c.args.packet.now in
     let straight = sym (c.goes_straight.ensures ∙ ap (λ (q : ℕ × RtpBody). goes_straight s.waiting.buffer q.0) c.packet.view_is) ∙ c.if-not-goes_straight.false in
     let follows = sym (c.is_behind_missing.ensures old.ended.items ∙ ap (λ (q : ℕ × RtpBody). is_behind_missing s.assembler q.0) c.packet.view_is) ∙ c.if-is_behind_missing.false in

@@ -1,0 +1,9 @@
+use Rattle.std.proofs.Common.{◌∙◌, ap, suc, arith}
+use Rattle.h26x_access_units.specs.Bits.{behind_codes}
+use Rattle.h26x_access_units.proofs.bits.Bits.pass.Goals as goal
+
+pub loop-preserved : goal.loop-preserved
+loop-preserved c = λ left e. ap (behind_codes left) c.code.ensures.behind ∙ c.loop.invariant (suc left) (omega (arith, e))
+
+pub returns : goal.returns
+returns c = let last = c.loop-test.false in let end = c.loop.auto.counter-end in c.loop.invariant 0 (omega (arith, last, end))
