@@ -144,6 +144,7 @@ static void *run(void *at)
         check_sequenced(&work->tally);
         check_access_units(&work->tally);
         check_access_unit_rows(&work->tally);
+        check_nack_rows(&work->tally);
         check_showing(&work->tally);
         check_looking(&work->tally);
         check_profiles(&work->tally);

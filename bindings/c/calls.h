@@ -32,6 +32,7 @@ void check_receiving(struct tally *t);
 void check_sequenced(struct tally *t);
 void check_access_units(struct tally *t);
 void check_access_unit_rows(struct tally *t);
+void check_nack_rows(struct tally *t);
 void check_showing(struct tally *t);
 void check_looking(struct tally *t);
 void check_cutting(struct tally *t);

@@ -40,7 +40,7 @@
     X(receiver_skip) X(receiver_run_len) X(h265_shown) X(h265_part_copy) X(access_units_push)      \
     X(access_units_skip) X(access_units_next) X(access_units_deadline) X(access_units_missing)     \
     X(access_units_begin_at) X(access_units_finish) X(access_units_restart) X(access_units_count)  \
-    X(access_units_set_config)                                                                     \
+    X(access_units_set_config) X(access_units_nacks)                                               \
     X(sdp_answer) X(sdp_codec) X(sdp_write) X(sdp_value) X(sdp_number) X(sdp_units) X(sdp_unit) X(sdp_other)     \
     X(sdp_max_don_diff) X(sdp_constraints) X(sdp_capability_points)
 
@@ -401,6 +401,11 @@ static uint64_t receives_units(int s, const struct drawn *d, struct answer *a, s
     case CALL_access_units_missing:
         return l->access_units_missing(U, d->has_to ? a->missing : NULL, d->x % 3 ? d->y % MISSING : 0,
                                        WANTED(0, &o->count));
+    case CALL_access_units_nacks: {
+        const h26x_nack_times times = {d->x % 5, d->y % 50, (uint8_t)(d->x % 4)};
+        return l->access_units_nacks(U, d->tick, &times, d->has_to ? a->missing : NULL,
+                                     d->x % 3 ? d->y % MISSING : 0, WANTED(0, &o->count));
+    }
     case CALL_access_units_begin_at:
         return l->access_units_begin_at(U, d->sequence, WANTED(4, &o->number));
     case CALL_access_units_finish:

@@ -63,6 +63,7 @@ static h26x_packetizer packetizer;
 static h26x_depacketizer depacketizer;
 static h26x_receiver receiver;
 static h26x_access_units access_units;
+static const h26x_nack_times nack_times = {10, 60, 5};
 static h26x_sdp format, made_format;
 
 /* Where there is something, what there is. */
@@ -606,6 +607,23 @@ static void check_access_units_missing(void)
     hands_on(h26x_access_units_missing(&access_units, given.numbers, given.numbers_room, given.first));
 }
 
+STUB(access_units_nacks);
+uint32_t proved_access_units_nacks(h26x_access_units *u, uint32_t now, const h26x_nack_times *times,
+                                   uint16_t *numbers, size_t numbers_room, size_t *count)
+{
+    expect(u == &access_units && now == given.value && times == &nack_times);
+    writes_numbers(numbers, numbers_room);
+    is_output(count, given.first);
+    return answer();
+}
+
+static void check_access_units_nacks(void)
+{
+    give(NUMBERS | FIRST);
+    hands_on(h26x_access_units_nacks(&access_units, given.value, &nack_times, given.numbers,
+                                     given.numbers_room, given.first));
+}
+
 STUB(access_units_begin_at);
 uint32_t proved_access_units_begin_at(h26x_access_units *u, uint16_t sequence, uint32_t *in_time)
 {
@@ -1053,6 +1071,7 @@ int main(void)
     in_each_case(check_access_units_next);
     in_each_case(check_access_units_deadline);
     in_each_case(check_access_units_missing);
+    in_each_case(check_access_units_nacks);
     in_each_case(check_access_units_begin_at);
     in_each_case(check_access_units_count);
     in_each_case(check_h265_part_copy);

@@ -386,6 +386,47 @@ func (r *AccessUnitReceiver) Missing() ([]uint16, error) {
 	return numbers, nil
 }
 
+// NackTimes is when Nacks asks for a number that is missing, in the caller's ticks.
+type NackTimes struct {
+	// First is how long it may come by itself, since the call that found it missing; 0: it is asked for there.
+	First uint32
+	// Again is how long after it was asked for it is asked for again: a round trip, and some more.
+	Again uint32
+	// Most is how often it is asked for at most; 0: never.
+	Most uint8
+}
+
+// Nacks is the numbers of Missing that are to be asked for at this tick, in order, up to most of them: each is asked for as
+// times says, and counts as asked for. Others are due at the next call. A number counts as missing since the first of the
+// calls in a row that found it so: call it as often as First and Again ask for. Its errors are ErrOutOfMemory and ErrClosed,
+// and nothing counts as asked for then.
+func (r *AccessUnitReceiver) Nacks(now uint32, times NackTimes, most int) ([]uint16, error) {
+	r.mu.Lock()
+	defer r.mu.Unlock()
+	if r.call == nil {
+		return nil, ErrClosed
+	}
+	count := new(C.size_t)
+	if err := refusedBy(C.h26x_access_units_missing(&r.call.handle, nil, 0, count)); err != nil {
+		return nil, err
+	}
+	if most > int(*count) {
+		most = int(*count)
+	}
+	var numbers []uint16
+	var first *C.uint16_t
+	if most > 0 {
+		numbers = make([]uint16, most)
+		first = (*C.uint16_t)(unsafe.Pointer(&numbers[0]))
+	}
+	when := &C.h26x_nack_times{first: C.uint32_t(times.First), again: C.uint32_t(times.Again), most: C.uint8_t(times.Most)}
+	code := C.h26x_access_units_nacks(&r.call.handle, C.uint32_t(now), when, first, C.size_t(len(numbers)), count)
+	if err := refusedBy(code); err != nil {
+		return nil, err
+	}
+	return numbers[:int(*count)], nil
+}
+
 // BeginAt says the number of the first packet of the stream, as a peer tells it (RTP-Info of RTSP, RFC 2326, 12.33):
 // packets from it on are waited for, those before it are late, and the first access unit is known to be whole where all of
 // it came. It answers whether it is said in time: once a packet came, or it was said, it changes nothing, nor behind Close.

@@ -552,6 +552,22 @@ H26X_API bool h26x_access_units_deadline(const h26x_access_units *u, uint32_t *a
 H26X_API uint32_t h26x_access_units_missing(const h26x_access_units *u, uint16_t *numbers, size_t numbers_room,
                                             size_t *count) H26X_MUST_USE;
 
+/** When h26x_access_units_nacks asks for a number that is missing. */
+typedef struct {
+    uint32_t first;       /**< ticks in which it may come by itself, since the call that found it missing; 0: it is asked
+                           * for there */
+    uint32_t again;       /**< ticks after which it is asked for again: a round trip, and some more */
+    uint8_t most;         /**< how often it is asked for at most; 0: never */
+} h26x_nack_times;
+
+/** The numbers of h26x_access_units_missing that are to be asked for at this tick, in order (NACK; RFC 4585, 6.2.1): each is
+ * asked for as `times` says. They go to the front of `numbers`, up to `numbers_room` of them, and count as asked for;
+ * *count is how many they are, and others are due at the next call. A number counts as missing since the first of the
+ * calls in a row that found it so: call it as often as `first` and `again` ask for. H26X_OUT_OF_MEMORY and
+ * H26X_WRONG_END write 0 to *count, leave `numbers`, and nothing counts as asked for. */
+H26X_API uint32_t h26x_access_units_nacks(h26x_access_units *u, uint32_t now, const h26x_nack_times *times,
+                                          uint16_t *numbers, size_t numbers_room, size_t *count) H26X_MUST_USE;
+
 /** Says the number of the first packet of the stream, as a peer tells it (RTP-Info of RTSP, RFC 2326, 12.33): packets
  * from it on are waited for, and the first access unit is known to be whole where they came. *in_time is 1, or 0 where
  * a packet came before, one was said, or h26x_access_units_next hasn't given out all behind h26x_access_units_finish;

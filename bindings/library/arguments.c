@@ -29,6 +29,7 @@ PROVED(access_units_skip);
 PROVED(access_units_next);
 PROVED(access_units_deadline);
 PROVED(access_units_missing);
+PROVED(access_units_nacks);
 PROVED(access_units_begin_at);
 PROVED(access_units_count);
 PROVED(h265_part_copy);
@@ -265,6 +266,13 @@ uint32_t h26x_access_units_missing(const h26x_access_units *u, uint16_t *numbers
 {
     size_t unwanted;
     return proved_access_units_missing(u, NUMBERS(numbers, numbers_room), WANTED(count, &unwanted));
+}
+
+uint32_t h26x_access_units_nacks(h26x_access_units *u, uint32_t now, const h26x_nack_times *times,
+                                 uint16_t *numbers, size_t numbers_room, size_t *count)
+{
+    size_t unwanted;
+    return proved_access_units_nacks(u, now, times, NUMBERS(numbers, numbers_room), WANTED(count, &unwanted));
 }
 
 uint32_t h26x_access_units_begin_at(h26x_access_units *u, uint16_t sequence, uint32_t *in_time)

@@ -5,7 +5,7 @@
 | `#[unsafe(no_mangle)] pub extern "C" fn h26x_x(..)` | `pub fn h26x_x(..)` of the same body; in a module `exports` of the crate a function of C's form that calls it | the body stays safe, and all that C gives is taken in one file |
 | `x: &[u8]` of an export | `x: *const u8, x_len: usize`, then `bytes(x, x_len)` | NULL has length 0 |
 | `to: &mut [u8]`, `name_to: &mut [u8]`, `ends: &mut [usize]`, `numbers: &mut [u16]`, `points: &mut [PointNumbers]`, `packet: &mut [u8]` | the same, as `room`, `name_room`, `ends_room`, `numbers_room`, `points_room` and `packet_len`, then `room(..)` | as the header names them; a struct of `ENTRIES` is of numbers alone, so that any memory is one |
-| `x: &Config` of an export | `x: *const Config`, then `shared(x)` | it is there |
+| `x: &Config`, `x: &NackTimes` of an export | `x: *const Config`, then `shared(x)` | it is there |
 | `x: &mut usize`, and the other types of `OUTPUTS`, which nothing reads; of all functions of the crates that C reaches | `x: &mut MaybeUninit<usize>`, `*x = y` is `x.write(y)`; of an export `x: *mut usize`, then `output(x, ..)` | C leaves it uninitialised; NULL isn't wanted |
 | `extra: &mut u8` of an export, which it reads | `extra: *mut u8`, then `in_out(extra, ..)` | NULL is read as 0 |
 | `x: &mut Place`, `x: &mut Handle`, `x: &ConstHandle` | `x: *mut Place`, then `made(x)`; `x: *mut Handle`, then `lent(x)`; `x: *const ConstHandle`, then `shared(x)` | they are there |
@@ -31,7 +31,7 @@ OUTPUTS = NUMBERS | {"Refusal", "Shown", "Place", "UnitTold", "Counts", "Constra
 # What C gives rows of to be written: numbers, and structs of nothing else.
 ENTRIES = {"u8", "u16", "usize", "PointNumbers"}
 # What a call only looks at: a handle, and what a caller sets.
-LOOKED_AT = {"ConstHandle", "Config"}
+LOOKED_AT = {"ConstHandle", "Config", "NackTimes"}
 # What the header says is in and out: C gives a number there, and of no other output.
 IN_OUT = {"extra"}
 # Parameters that the header names otherwise.
@@ -192,7 +192,8 @@ class Exports:
         uses = ["use crate::pointers;"] if "pointers::" in used else []
         uses += ["use core::mem::MaybeUninit;"] if "MaybeUninit" in used else []
         kinds = {"ConstHandle": "const_handle", "Handle": "handle", "Place": "place", "Shown": "shown",
-                 "Config": "access_units", "Counts": "access_units"}
+                 "Config": "access_units", "Counts": "access_units",
+                 "NackTimes": "access_units"}
         uses += [f"pub use super::{file}::{kind};" for kind, file in kinds.items() if re.search(rf"\b{kind}\b", used)]
         below = {"Refusal": "h26x_codes::code", "UnitTold": "h26x_handles::access_units",
                  "ConstraintNumbers": "h26x_sdp_handles::sdp_values", "PointNumbers": "h26x_sdp_handles::sdp_values"}

@@ -1,14 +1,14 @@
 -- What is known of a decoder is what the whole list of access units tells.
 use Rattle.std.proofs.Common.{◌≡◌, ◌∙◌, ap, sym, refl, ℕ, Bool, true, false, cond, List, [], ◌∷◌, Option, inl, inr}
-use Rattle.std.specs.Prelude.{◌↔◌, ◌⊎◌, ◌==◌, ◌||◌, ◌&&◌, not}
+use Rattle.std.specs.Prelude.{◌⊎◌, ◌==◌, ◌||◌, ◌&&◌, not}
 use Rattle.h26x_core.specs.declared.extra.CodecExtra.{CodecExtra}
 use Rattle.h26x_core.specs.declared.extra.CodecExtra.TheVariants as extras
 use Rattle.h26x_access_units.specs.declared.content.ParameterSets.{ParameterSets}
 use Rattle.h26x_access_units.specs.Content.{no_sets, joined_sets}
-use Rattle.h26x_access_units.specs.Decoder.{are_enough, is_first_key, is_first_other, is_disposable, sets_after, layer_after, head_after, long_key_after, is_behind_no_loss, can_begin, can_go_on, shows}
+use Rattle.h26x_access_units.specs.Decoder.{are_enough, is_first_key, is_first_other, is_disposable, sets_after, layer_after, head_after, long_key_after, is_behind_no_loss, can_begin, can_go_on}
 use Rattle.h26x_access_units.specs.FrameNumber.{joined_numbering, tells_none_lost}
 use Rattle.h26x_access_units.specs.declared.frame_number.Numbering.{Numbering}
-use Rattle.h26x_access_units.specs.Decodable.{GivenUnit, decoder_behind, HasCome, in_last, in_earlier, HaveTwoSetsCome, HaveSetsCome, known_layer, known_numbering, known_head, has_long_key, BeginsDecoding, IsBehindNoLoss, GoesOnDecoding, IsDecodable, begins, goes_on, IsCleanWhereDecodable}
+use Rattle.h26x_access_units.specs.Decodable.{GivenUnit, decoder_behind, HasCome, in_last, in_earlier, HaveTwoSetsCome, HaveSetsCome, known_layer, known_numbering, known_head, has_long_key, BeginsDecoding, IsBehindNoLoss, IsDecodable, begins, goes_on, IsCleanWhereDecodable}
 
 -- one of two holds
 one_of : (a b : Bool) → (a || b) ≡ true → (a ≡ true) ⊎ (b ≡ true)

@@ -1,7 +1,6 @@
 -- What was given to the decoder that a receiver knows of.
-use Rattle.std.proofs.Common.{◌≡◌, ◌∙◌, ap, sym, subst, refl, ℕ, Bool, true, false, cond, List, [], ◌∷◌, ◌++◌, Option, Some, None, inl, inr}
+use Rattle.std.proofs.Common.{◌≡◌, ◌∙◌, ap, sym, subst, refl, ℕ, Bool, true, false, cond, List, [], ◌∷◌, ◌++◌, Option, Some}
 use Rattle.std.specs.Prelude.{◌&&◌, MatchBool}
-use Rattle.h26x_model.specs.Receive.DepacketizerState.{DepacketizerState}
 use Rattle.h26x_reorder.specs.Rtp.{RtpBody}
 use Rattle.h26x_assembler.specs.AccessUnit.{AccessUnitValue}
 use Rattle.h26x_access_units.specs.declared.config.AccessUnitConfig.{AccessUnitConfig}
@@ -12,7 +11,6 @@ use Rattle.h26x_access_units.specs.Numbers.{bears_nothing, begun_numbers_at, fir
 use Rattle.h26x_reorder.specs.ReorderBuffer.{begun_at}
 use Rattle.h26x_access_units.specs.JitterBuffer.{JitterState, may_tell_first, begun_jitter}
 use Rattle.h26x_access_units.specs.ReceivedAccessUnit.{ReceivedAccessUnitValue, decoder_with}
-use Rattle.h26x_access_units.specs.Decoder.{shows}
 use Rattle.h26x_access_units.specs.Reception.{Reception, after_reception, is_taken_at_once, IsDueTaken, IsEndedBefore, is_behind_missing, ended_behind_missing, ended_by_content, IsPushed, IsDrained, none, bare, more, behind, bare_passed, without_bare, without_bare_of, ended_if_anew, ended_if_over, has_no_unit, unit_given, unit_given_of, without_given, without_given_of, begun_reception, with_settings, IsNext}
 use Rattle.h26x_access_units.specs.Decodable.{GivenUnit, decoder_behind, given_unit, WereGiven, IsToldClean, IsGivenBehind}
 use Rattle.h26x_access_units.proofs.LimitLemmas.{config_stays, anew_config, joined_config}

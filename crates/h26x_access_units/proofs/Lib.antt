@@ -9,5 +9,6 @@ pub mod ContentLemmas
 pub mod LimitLemmas
 pub mod ReceptionLemmas
 pub mod MissingLemmas
+pub mod NackLemmas
 pub mod DecodableLemmas
 pub mod GivenLemmas

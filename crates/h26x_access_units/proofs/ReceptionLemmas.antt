@@ -3,8 +3,8 @@ use Rattle.std.proofs.Common.{◌≡◌, ◌∙◌, ap, sym, subst, ℕ, ◌+◌
 use Rattle.std.specs.Prelude.{remove}
 use Rattle.std.specs.Option.{unwrap_or}
 use Rattle.h26x_assembler.specs.declared.access_unit.AccessUnit.{AccessUnit}
-use Rattle.std.specs.Prelude.{◌==◌, ◌||◌, ◌&&◌, if◌then◌else◌, ◌⊎◌, nat_lt, nat_le, slice_get}
-use Rattle.h26x_core.specs.Sequence.{distance_ahead, distance_behind, is_late, is_expected, missing_count}
+use Rattle.std.specs.Prelude.{◌==◌, ◌||◌, ◌&&◌, if◌then◌else◌, nat_lt, nat_le, slice_get}
+use Rattle.h26x_core.specs.Sequence.{distance_ahead, distance_behind, is_late, missing_count}
 use Rattle.std.proofs.lemmas.Bool.Decides.{nat_tests}
 use Rattle.h26x_reorder.specs.Rtp.{RtpBody}
 use Rattle.h26x_reorder.specs.ReorderBuffer.{BufferState, buffer_state, goes_straight, push_answer, after_push, first_ready, next_packet, without_first_of}
@@ -14,7 +14,7 @@ use Rattle.std.specs.Prelude.{Result, Ok, Err, IfOk, MatchBool, not, is_some}
 use Rattle.h26x_receiver.specs.declared.received.Received.{Received}
 use Rattle.h26x_receiver.specs.declared.received.Received.TheVariants.{InOrder, Gap, TooLong, Late}
 use Rattle.h26x_receiver.specs.Sequenced.{is_taken}
-use Rattle.h26x_assembler.specs.AccessUnit.{AccessUnitValue, access_unit_value, Assembly, is_unit_at, is_text_given_up, given_out, after_rtp, after_ending, after_finishing}
+use Rattle.h26x_assembler.specs.AccessUnit.{AccessUnitValue, access_unit_value, Assembly, is_unit_at, given_out, after_rtp, after_ending, after_finishing}
 use Rattle.h26x_access_units.specs.declared.counts.Counts.{Counts}
 use Rattle.h26x_access_units.specs.declared.decoder.DecoderState.{DecoderState}
 use Rattle.h26x_access_units.specs.declared.framing.Framing.{Framing}
@@ -29,10 +29,10 @@ use Rattle.h26x_access_units.specs.declared.pushed.Pushed.{Pushed}
 use Rattle.h26x_access_units.specs.declared.pushed.Pushed.TheVariants as pushes
 use Rattle.h26x_access_units.specs.Counts.{counted_due, counted_skip, counted_answer, counted_dropped, counted_framing, counted_unit}
 use Rattle.h26x_access_units.specs.Pushed.{as_pushed}
-use Rattle.h26x_access_units.specs.Numbers.{bears_nothing, numbers_after, numbers_closed, numbers_carrying, after_last, after_missing, first_ended, without_first_ended}
-use Rattle.h26x_access_units.specs.JitterBuffer.{JitterState, reach, is_far, is_ahead, is_full, jitter_answer, is_pressed, awaited_number, awaited, due_packet, with_packet, without_due}
+use Rattle.h26x_access_units.specs.Numbers.{bears_nothing, numbers_closed, numbers_carrying, after_last, after_missing, first_ended, without_first_ended}
+use Rattle.h26x_access_units.specs.JitterBuffer.{JitterState, reach, is_far, is_ahead, is_full, is_pressed, awaited_number, awaited, due_packet, with_packet, without_due}
 use Rattle.h26x_access_units.specs.ReceivedAccessUnit.{ReceivedAccessUnitValue, received_unit, decoder_with, whole_with}
-use Rattle.h26x_access_units.specs.Reception.{Reception, reception, assembly_after, marker_forgotten, begun_for, expected_for, is_behind_missing, is_in_reach, shown_of, ends_before, is_one_taken, begins_still, counts_answered, after_due, is_repeat, is_too_far, way_of, answer_on, reception_answer, after_reception, has_no_unit, has_bare, bare_passed, first_passed, first_passed_of, without_bare, without_bare_of, is_taken_at_once, is_idle, after_finish, ended_if_anew, ended_if_over, unit_given_of, unit_given, without_given_of, without_given, IsDueTaken, IsPushed, IsDrained, none, bare, more, behind, IsEndedBefore, ended_behind_missing, ended_by_content, ended_before, IsDueTakenOrNone, FollowsWhereDue, IsEndedOrFollows, IsStepOrNone, IsStep, ended_alone, taken_alone, ended_and_taken, IsStepInPart, IsNext}
+use Rattle.h26x_access_units.specs.Reception.{Reception, reception, assembly_after, is_behind_missing, is_in_reach, shown_of, ends_before, is_one_taken, begins_still, counts_answered, after_due, is_repeat, is_too_far, way_of, answer_on, reception_answer, after_reception, has_no_unit, has_bare, bare_passed, first_passed, first_passed_of, without_bare, without_bare_of, is_taken_at_once, is_idle, after_finish, ended_if_anew, ended_if_over, unit_given_of, unit_given, without_given_of, without_given, IsDueTaken, IsPushed, IsDrained, none, bare, more, behind, IsEndedBefore, ended_behind_missing, ended_by_content, ended_before, IsDueTakenOrNone, FollowsWhereDue, IsEndedOrFollows, IsStepOrNone, IsStep, ended_alone, taken_alone, ended_and_taken, IsStepInPart, IsNext}
 
 -- where nothing is held nothing is ready
 none_ready : (window : ℕ) (due : Option ℕ) → first_ready {A = RtpBody} window due [] ≡ None

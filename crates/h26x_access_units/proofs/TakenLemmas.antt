@@ -1,12 +1,11 @@
 -- Which of the numbers that were taken are told.
 use Rattle.std.proofs.Common.{◌≡◌, ◌≢◌, ◌∙◌, ap, sym, subst, refl, ℕ, zero, suc, ◌+◌, ◌%◌, ◌/◌, ◌<◌, ◌≤◌, Bool, true, false, List, [], ◌∷◌, ◌++◌, length, get_or, set, Some, arith}
-use Rattle.std.specs.Prelude.{◌==◌, ◌&&◌, ◌||◌, nat_lt, nat_le, min}
-use Rattle.std.specs.List.{repeat, list_any, AllByRecursion}
+use Rattle.std.specs.Prelude.{◌==◌, ◌&&◌, ◌||◌, nat_lt, nat_le}
+use Rattle.std.specs.List.{repeat, list_any}
 use Rattle.std.proofs.lemmas.Bool.Decides.{nat_tests}
 use Rattle.std.proofs.lemmas.List.{get_or-set_same, get_or-set_other, length-set}
 use Rattle.h26x_core.specs.Sequence.{distance_ahead, next_sequence_number}
-use Rattle.h26x_access_units.specs.declared.passed.PassedNumbers.{PassedNumbers}
-use Rattle.h26x_access_units.specs.Passed.{is_noted, is_behind_by, is_passed, is_taken_before, passed_with, due_behind, passed_behind, is_told_taken, AreNumbers, AreSoonBehind}
+use Rattle.h26x_access_units.specs.Passed.{is_noted, is_passed, due_behind, passed_behind, is_told_taken, AreNumbers, AreSoonBehind}
 
 -- at first none is noted
 abbrev zeros : ℕ → List ℕ

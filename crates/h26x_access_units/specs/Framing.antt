@@ -1,6 +1,6 @@
 -- Where access units begin and end: by their timestamps and markers, and by what their units are (the
 -- video standards' sections on the order of NAL units; ours).
-use Rattle.std.specs.Prelude.{ℕ, ◌==◌, nat_le, Bool, true, false, not, ◌&&◌, ◌||◌, if◌then◌else◌, List, get_or, Option, Some, None}
+use Rattle.std.specs.Prelude.{ℕ, nat_le, Bool, true, false, not, ◌&&◌, ◌||◌, if◌then◌else◌, List, get_or, Option, Some, None}
 use Rattle.std.specs.List.{list_any}
 use Rattle.std.specs.Option.{option_map}
 use Rattle.h26x_core.specs.Word.{field}
@@ -10,7 +10,6 @@ use Rattle.h26x_core.specs.declared.extra.CodecExtra.{CodecExtra}
 use Rattle.h26x_core.specs.declared.extra.CodecExtra.TheVariants as extras
 use Rattle.h26x_model.specs.Payload.Format.{Format}
 use Rattle.h26x_depacketizer.specs.Look.{first_bytes, borne_units, begun_units, first_unit_of}
-use Rattle.h26x_access_units.specs.declared.content.Slice.{Slice}
 use Rattle.h26x_access_units.specs.declared.content.UnitKind.{UnitKind}
 use Rattle.h26x_access_units.specs.declared.content.UnitKind.TheVariants as kinds
 use Rattle.h26x_access_units.specs.declared.framing.Framing.{Framing}

@@ -1,7 +1,7 @@
 -- Packets that wait for those before them: by a window, by time and by bytes (RFC 3550, 5.1; ours).
-use Rattle.std.specs.Prelude.{◌≡◌, ℕ, ◌+◌, ◌<◌, ◌≤◌, ◌-◌, ◌^◌, ◌==◌, nat_lt, nat_le, Bool, true, false, ◌||◌, ◌&&◌, not, if◌then◌else◌, List, [], ◌∷◌, ◌++◌, length, Option, Some, None, slice_get, slice_index_or, max, min, is_some}
+use Rattle.std.specs.Prelude.{◌≡◌, ℕ, ◌+◌, ◌<◌, ◌≤◌, ◌^◌, ◌==◌, nat_lt, nat_le, Bool, true, false, ◌||◌, ◌&&◌, not, if◌then◌else◌, List, [], ◌∷◌, ◌++◌, length, Option, Some, None, slice_get, max, min, is_some}
 use Rattle.h26x_core.specs.Sequence.{distance_ahead}
-use Rattle.h26x_reorder.specs.Rtp.{RtpBody, rtp_body}
+use Rattle.h26x_reorder.specs.Rtp.{RtpBody}
 use Rattle.h26x_reorder.specs.ReorderBuffer.{BufferState, fresh_buffer, begun_at, with_window, newest_of, is_ahead_of, are_beyond, push_answer, after_push, next_packet, without_first, IsHeldInOrder}
 use Rattle.h26x_access_units.specs.declared.arrival.Arrival.{Arrival}
 use Rattle.h26x_access_units.specs.declared.config.AccessUnitConfig.{AccessUnitConfig}

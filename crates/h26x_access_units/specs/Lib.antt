@@ -14,4 +14,5 @@ pub mod ReceivedAccessUnit
 pub mod Reception
 pub mod Decodable
 pub mod Missing
+pub mod Nacks
 pub mod Limits

@@ -19,7 +19,7 @@ pub struct Arrival {
 }
 
 /// Whether a number is behind the one that is due.
-fn is_passed(due: u16, number: u16) -> bool
+pub(crate) fn is_passed(due: u16, number: u16) -> bool
     ensures { result ≡ is_late (Some due) number }
 {
     number.wrapping_sub(due) >= HALF

@@ -3,8 +3,10 @@ use Rattle.std.specs.Prelude.{◌≡◌, ◌≢◌, ℕ, List, Some, Result}
 use Rattle.h26x_reorder.specs.Rtp.{RtpBody}
 use Rattle.h26x_access_units.specs.declared.config.AccessUnitConfig.{AccessUnitConfig}
 use Rattle.h26x_access_units.specs.declared.counts.Counts as counted
+use Rattle.h26x_access_units.specs.declared.nacks.NackTimes as nacks
 use Rattle.h26x_c.specs.declared.access_units.Config.{Config}
 use Rattle.h26x_c.specs.declared.access_units.Counts.{Counts}
+use Rattle.h26x_c.specs.declared.access_units.NackTimes.{NackTimes}
 use Rattle.h26x_codec.specs.declared.codec.Codec.{Codec}
 use Rattle.h26x_model.specs.Where.{Where}
 use Rattle.h26x_endpoint.specs.EndpointStates.{endpoint_units}
@@ -36,6 +38,10 @@ config_codec_or_code config = units_codec_or_code config.codec config.numbers co
 abbrev pub fresh_units_with : Codec → Config → UnitsState
 fresh_units_with codec config =
     fresh_access_units codec config.numbers config.avc (units_config config)
+
+-- when missing numbers are asked for
+abbrev pub nack_times : NackTimes → nacks.NackTimes
+nack_times times = record { first = times.first; again = times.again; most = times.most }
 
 -- what was counted, as C is told it
 abbrev pub counts_told : counted.Counts → Counts

@@ -5,10 +5,10 @@ ghost use Rattle.h26x_model.specs.Where.{Where};
 ghost use Rattle.h26x_codec.specs.declared.codec.Codec.{Codec};
 ghost use Rattle.h26x_reorder.specs.Rtp.{rtp_body};
 ghost use Rattle.h26x_endpoint.specs.EndpointStates.{is_access_units, endpoint_units, endpoint_deadline, endpoint_missing, place_units};
-ghost use Rattle.h26x_handles.specs.UnitsState.{UnitsState, is_begun_in_time, units_begun, units_finished, units_restarted, is_window, units_with_settings, IsOutOfMemory};
+ghost use Rattle.h26x_handles.specs.UnitsState.{UnitsState, is_begun_in_time, units_begun, units_nacks, units_nacked, units_finished, units_restarted, is_window, units_with_settings, IsOutOfMemory};
 ghost use Rattle.h26x_codes.specs.Codes.{ok, out_of_memory, out_of_range, wrong_end};
 ghost use Rattle.h26x_codes.specs.Copies.{with_first};
-ghost use Rattle.h26x_c.specs.AccessUnits.{config_codec_or_code, fresh_units_with, units_config, counts_told, TellsPush, IsPushedTo, IsNextOf};
+ghost use Rattle.h26x_c.specs.AccessUnits.{config_codec_or_code, fresh_units_with, units_config, nack_times, counts_told, TellsPush, IsPushedTo, IsNextOf};
 ghost use Rattle.h26x_c.specs.Endpoints.{Makes};
 
 use crate::const_handle::ConstHandle;
@@ -39,6 +39,15 @@ pub struct Config {
     pub held_limit: usize,
     pub run_limit: usize,
     pub unit_limit: usize,
+}
+
+/// When missing numbers are asked for.
+#[repr(C)]
+#[derive(Clone, Copy)]
+pub struct NackTimes {
+    pub first: u32,
+    pub again: u32,
+    pub most: u8,
 }
 
 /// What was counted.
@@ -76,6 +85,17 @@ fn settings(config: &Config) -> AccessUnitConfig
         run_limit: config.run_limit,
         unit_limit: config.unit_limit,
         has_sets: config.has_sets,
+    }
+}
+
+/// When a receiver asks for missing numbers.
+fn nack_times(times: &NackTimes) -> h26x_access_units::NackTimes
+    ensures { result ≡ nack_times times.now }
+{
+    h26x_access_units::NackTimes {
+        first: times.first,
+        again: times.again,
+        most: times.most,
     }
 }
 
@@ -288,6 +308,42 @@ pub extern "C" fn h26x_access_units_missing(
     *count = 0;
     match u.get() {
         Endpoint::AccessUnits(it) => match it.missing(numbers) {
+            Ok(all) => {
+                *count = all;
+                OK
+            }
+            Err(_) => OUT_OF_MEMORY,
+        },
+        _ => WRONG_END,
+    }
+}
+
+/// Copies the missing numbers that are to be asked for at this tick, as many as there is room for, which
+/// count as asked for.
+#[unsafe(no_mangle)]
+pub extern "C" fn h26x_access_units_nacks(
+    u: &mut Handle,
+    now: u32,
+    times: &NackTimes,
+    numbers: &mut [u16],
+    count: &mut usize,
+) -> u32
+    ensures wrong { is_access_units u.old.value ≡ false → (result ≡ wrong_end)
+        × (u.new.value ≡ u.old.value) }
+    ensures answer { is_access_units u.old.value ≡ true →
+        (result ≡ ok) ⊎ (result ≡ out_of_memory) }
+    ensures count { Where (endpoint_units u.old.value) (λ it. result ≡ ok →
+        count.new ≡ length (units_nacks (nack_times times.now) now (length numbers.old) it)) }
+    ensures copied { Where (endpoint_units u.old.value) (λ it. result ≡ ok → numbers.new
+        ≡ with_first (units_nacks (nack_times times.now) now (length numbers.old) it) numbers.old) }
+    ensures after { Where (endpoint_units u.old.value) (λ it. result ≡ ok → endpoint_units u.new.value
+        ≡ Some (units_nacked (nack_times times.now) now (length numbers.old) it)) }
+    ensures kept { result ≢ ok → endpoint_units u.new.value ≡ endpoint_units u.old.value }
+    ensures none { result ≢ ok → (count.new ≡ 0) × (numbers.new ≡ numbers.old) }
+{
+    *count = 0;
+    match u.get_mut() {
+        Endpoint::AccessUnits(it) => match it.nacks(now, nack_times(times), numbers) {
             Ok(all) => {
                 *count = all;
                 OK

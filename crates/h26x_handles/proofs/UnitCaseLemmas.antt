@@ -28,8 +28,8 @@ is_there false unit is = let bad : answers.NothingYet ≡ answers.NoRoom (unit_t
 
 -- of one that was written
 pub written_of : (now : ℕ) (it new : UnitsState) (to new_to : List ℕ) (told : UnitTold) (unit : Option ReceivedAccessUnitValue) → IsNextGiven now it new.reception unit →
-    new ≡ units_state it.codec new.reception (unit_without_room unit to) → new_to ≡ buffer_with_unit unit to → answers.Written told ≡ next_answer unit to →
-    (u : ReceivedAccessUnitValue) × IsNextGiven now it new.reception (Some u) × (told ≡ unit_told u) × (length u.bytes ≤ length to) × (new_to ≡ u.bytes ++ drop (length u.bytes) to) × (new ≡ units_state it.codec new.reception None)
+    new ≡ units_state it.codec new.reception (unit_without_room unit to) it.nacks → new_to ≡ buffer_with_unit unit to → answers.Written told ≡ next_answer unit to →
+    (u : ReceivedAccessUnitValue) × IsNextGiven now it new.reception (Some u) × (told ≡ unit_told u) × (length u.bytes ≤ length to) × (new_to ≡ u.bytes ++ drop (length u.bytes) to) × (new ≡ units_state it.codec new.reception None it.nacks)
 written_of now it new to new_to told None next stands put is = absurd (let bad : answers.Written told ≡ answers.NothingYet = is in cc)
 written_of now it new to new_to told (Some u) next stands put is =
     let (fits, same) = fits_there (nat_le (length u.bytes) (length to)) u told is in (
@@ -38,13 +38,13 @@ written_of now it new to new_to told (Some u) next stands put is =
       same,
       grind (arith, nat_tests),
       put ∙ ap (λ (f : Bool). if f then u.bytes ++ drop (length u.bytes) to else to) fits,
-      stands ∙ ap (λ (f : Bool). units_state it.codec new.reception (if f then None else Some u)) fits,
+      stands ∙ ap (λ (f : Bool). units_state it.codec new.reception (if f then None else Some u) it.nacks) fits,
     )
 
 -- of one that had no room
 pub left_of : (now : ℕ) (it new : UnitsState) (to new_to : List ℕ) (told : UnitTold) (unit : Option ReceivedAccessUnitValue) → IsNextGiven now it new.reception unit →
-    new ≡ units_state it.codec new.reception (unit_without_room unit to) → new_to ≡ buffer_with_unit unit to → answers.NoRoom told ≡ next_answer unit to →
-    (u : ReceivedAccessUnitValue) × IsNextGiven now it new.reception (Some u) × (told ≡ unit_told u) × (length to < length u.bytes) × (new_to ≡ to) × (new ≡ units_state it.codec new.reception (Some u))
+    new ≡ units_state it.codec new.reception (unit_without_room unit to) it.nacks → new_to ≡ buffer_with_unit unit to → answers.NoRoom told ≡ next_answer unit to →
+    (u : ReceivedAccessUnitValue) × IsNextGiven now it new.reception (Some u) × (told ≡ unit_told u) × (length to < length u.bytes) × (new_to ≡ to) × (new ≡ units_state it.codec new.reception (Some u) it.nacks)
 left_of now it new to new_to told None next stands put is = absurd (let bad : answers.NoRoom told ≡ answers.NothingYet = is in cc)
 left_of now it new to new_to told (Some u) next stands put is =
     let (lacks, same) = lacks_there (nat_le (length u.bytes) (length to)) u told is in (
@@ -53,13 +53,13 @@ left_of now it new to new_to told (Some u) next stands put is =
       same,
       grind (arith, nat_tests),
       put ∙ ap (λ (f : Bool). if f then u.bytes ++ drop (length u.bytes) to else to) lacks,
-      stands ∙ ap (λ (f : Bool). units_state it.codec new.reception (if f then None else Some u)) lacks,
+      stands ∙ ap (λ (f : Bool). units_state it.codec new.reception (if f then None else Some u) it.nacks) lacks,
     )
 
 -- of none
 pub none_of : (now : ℕ) (it new : UnitsState) (to new_to : List ℕ) (unit : Option ReceivedAccessUnitValue) → IsNextGiven now it new.reception unit →
-    new ≡ units_state it.codec new.reception (unit_without_room unit to) → new_to ≡ buffer_with_unit unit to → answers.NothingYet ≡ next_answer unit to →
-    IsNextGiven now it new.reception None × (new_to ≡ to) × (new ≡ units_state it.codec new.reception None)
+    new ≡ units_state it.codec new.reception (unit_without_room unit to) it.nacks → new_to ≡ buffer_with_unit unit to → answers.NothingYet ≡ next_answer unit to →
+    IsNextGiven now it new.reception None × (new_to ≡ to) × (new ≡ units_state it.codec new.reception None it.nacks)
 none_of now it new to new_to None next stands put is = (next, put, stands)
 none_of now it new to new_to (Some u) next stands put is = absurd (is_there (nat_le (length u.bytes) (length to)) u is)
 
@@ -84,7 +84,7 @@ not_both : (b c : Bool) (r s : Reception) → c ≡ false → (if b && c then r 
 not_both true c r s is = ap (λ (x : Bool). if x then r else s) is
 not_both false c r s is = refl
 
-pub not_changed : (now : ℕ) (it new : UnitsState) → new ≡ units_state it.codec new.reception it.left → IsDrainedInPart now it.reception new.reception →
+pub not_changed : (now : ℕ) (it new : UnitsState) → new ≡ units_state it.codec new.reception it.left it.nacks → IsDrainedInPart now it.reception new.reception →
     it.reception.assembler.ended ≡ [] → it.reception.is_anew ≡ false → due_packet now it.reception.waiting ≡ None → new ≡ it
 not_changed now it new stands taken left begun idle =
     let whole : without_bare it.reception ≡ it.reception = ap (without_bare_of it.reception) left in
@@ -92,7 +92,7 @@ not_changed now it new stands taken left begun idle =
     let left_too = ap (λ (r : Reception). r.assembler.ended) same ∙ left in
     let idle_too : due_packet now (ended_if_anew (without_bare it.reception)).waiting ≡ None = ap (λ (r : Reception). due_packet now r.waiting) same ∙ idle in
     let stays : new.reception ≡ it.reception = ⊎_elim (λ e. e ∙ whole) (λ drained. none_taken now (ended_if_anew (without_bare it.reception)) new.reception drained left_too idle_too ∙ same) taken in
-    stands ∙ ap (λ (r : Reception). units_state it.codec r it.left) stays
+    stands ∙ ap (λ (r : Reception). units_state it.codec r it.left it.nacks) stays
 
 -- where no access unit waits for room, the next one is the receiver's
 pub next_of : (now : ℕ) (it : UnitsState) (new : Reception) (unit : Option ReceivedAccessUnitValue) → it.left ≡ None → IsNextGiven now it new unit → IsNext now it.reception new unit

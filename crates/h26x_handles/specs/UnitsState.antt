@@ -1,12 +1,15 @@
 -- A receiver of access units behind a handle, and the access unit that had no room where it was to be
 -- written (ours).
-use Rattle.std.specs.Prelude.{◌≡◌, ◌⊎◌, ℕ, ◌^◌, ◌==◌, ◌||◌, ◌&&◌, nat_le, nat_lt, Bool, true, if◌then◌else◌, List, length, Option, Some, None, Result, Ok, Err, MatchOption}
+use Rattle.std.specs.Prelude.{◌≡◌, ◌⊎◌, ℕ, ◌^◌, ◌==◌, ◌||◌, ◌&&◌, nat_le, nat_lt, Bool, true, if◌then◌else◌, List, [], length, take, Option, Some, None, Result, Ok, Err, MatchOption}
 use Rattle.h26x_access_units.specs.declared.config.AccessUnitConfig.{AccessUnitConfig}
 use Rattle.h26x_access_units.specs.declared.pushed.Pushed.{Pushed}
 use Rattle.h26x_access_units.specs.declared.pushed.Pushed.TheVariants as pushes
 use Rattle.h26x_access_units.specs.Arrival.{deadline_of}
 use Rattle.h26x_access_units.specs.JitterBuffer.{may_tell_first, longest_wait, awaited}
 use Rattle.h26x_access_units.specs.Missing.{missing_numbers}
+use Rattle.h26x_access_units.specs.declared.nacks.Nack.{Nack}
+use Rattle.h26x_access_units.specs.declared.nacks.NackTimes.{NackTimes}
+use Rattle.h26x_access_units.specs.Nacks.{nacks_now, numbers_due, nacks_asked}
 use Rattle.h26x_access_units.specs.ReceivedAccessUnit.{ReceivedAccessUnitValue}
 use Rattle.h26x_access_units.specs.Reception.{Reception, fresh_reception, begun_reception, reception_answer, restarted, with_settings, IsPushed, IsNext, IsDrainedInPart}
 use Rattle.h26x_codec.specs.Codec.{codec_format}
@@ -18,16 +21,18 @@ use Rattle.h26x_handles.specs.declared.access_units.NextAnswer.{NextAnswer}
 use Rattle.h26x_handles.specs.declared.access_units.NextAnswer.TheVariants as answers
 use Rattle.h26x_handles.specs.declared.access_units.UnitTold.{UnitTold}
 
--- what it is to contracts: its codec, its receiver, and the access unit that had no room, until it is
--- given out
+-- what it is to contracts: its codec, its receiver, the access unit that had no room, until it is given
+-- out, and which missing numbers were asked for
 pub record UnitsState : Type 0 where
   pub codec : Codec
   pub reception : Reception
   pub left : Option ReceivedAccessUnitValue
+  pub nacks : List Nack
 
--- these three
-abbrev pub units_state : Codec → Reception → Option ReceivedAccessUnitValue → UnitsState
-units_state codec reception left = record { codec = codec; reception = reception; left = left }
+-- these four
+abbrev pub units_state : Codec → Reception → Option ReceivedAccessUnitValue → List Nack → UnitsState
+units_state codec reception left nacks =
+    record { codec = codec; reception = reception; left = left; nacks = nacks }
 
 -- the codec of one that is to be made, or the code that says why there is none: as of a depacketizer,
 -- and a window is of 1 to 2^14 places
@@ -51,6 +56,7 @@ fresh_access_units codec has_donl is_avc config = record {
     run = None;
   });
   left = None;
+  nacks = [];
 }
 
 -- the same with another state of its receiver
@@ -152,6 +158,19 @@ abbrev pub units_missing : UnitsState → List ℕ
 units_missing it =
     missing_numbers (awaited it.reception.waiting) it.reception.waiting.buffer.held
 
+-- what is known of the numbers that are missing, to ask for them at this tick
+abbrev pub units_nacks_now : ℕ → UnitsState → List Nack
+units_nacks_now now it = nacks_now now it.nacks (units_missing it)
+
+-- the numbers that are asked for at this tick, up to so many
+abbrev pub units_nacks : NackTimes → ℕ → ℕ → UnitsState → List ℕ
+units_nacks times now room it = take room (numbers_due times now (units_nacks_now now it))
+
+-- the same once they are
+abbrev pub units_nacked : NackTimes → ℕ → ℕ → UnitsState → UnitsState
+units_nacked times now room it =
+    record it { nacks = nacks_asked times now room (units_nacks_now now it) }
+
 -- whether the number of the first packet may be told
 abbrev pub is_begun_in_time : UnitsState → Bool
 is_begun_in_time it = may_tell_first it.reception.waiting
@@ -167,4 +186,4 @@ units_finished it = units_with_reception
 
 -- for another sender; an access unit that had no room stays
 abbrev pub units_restarted : UnitsState → UnitsState
-units_restarted it = units_with_reception (restarted it.reception) it
+units_restarted it = record it { reception = restarted it.reception; nacks = [] }

@@ -1,14 +1,15 @@
 //! A receiver of access units, of packets as a network brings them, and the access unit that had no
 //! room where it was to be written.
 
-ghost use Rattle.std.specs.Prelude.{◌≡◌, ◌<◌, ◌≤◌, ◌^◌, [], false, None, Err, IfOk, OnErr, length};
+ghost use Rattle.std.specs.Prelude.{◌≡◌, ◌<◌, ◌≤◌, ◌^◌, [], false, None, Err, IfOk, OnOk, OnErr, length};
 ghost use Rattle.h26x_access_units.specs.ReceivedAccessUnit.{received_unit_value};
 ghost use Rattle.h26x_reorder.specs.Rtp.{rtp_body};
-ghost use Rattle.h26x_handles.specs.UnitsState.{units_codec_or_code, fresh_access_units, pushed_numbers, unit_told, next_answer, buffer_with_unit, unit_without_room, units_push_answer, IsUnitsPushed, IsUnitGiven, IsOutOfMemory, next_numbers, units_deadline, units_missing, is_begun_in_time, units_begun, units_finished, units_restarted, is_window, units_with_settings};
+ghost use Rattle.h26x_handles.specs.UnitsState.{units_codec_or_code, fresh_access_units, pushed_numbers, unit_told, next_answer, buffer_with_unit, unit_without_room, units_push_answer, IsUnitsPushed, IsUnitGiven, IsOutOfMemory, next_numbers, units_deadline, units_missing, units_nacks, units_nacked, is_begun_in_time, units_begun, units_finished, units_restarted, is_window, units_with_settings};
 ghost use Rattle.h26x_codes.specs.Copies.{with_first};
 
 use h26x_access_units::{
-    AccessUnitConfig, AccessUnitReceiver, Counts, Pushed, ReceivedAccessUnit, Receives,
+    AccessUnitConfig, AccessUnitReceiver, Counts, NackTimes, Nacks, Pushed, ReceivedAccessUnit,
+    Receives,
 };
 use h26x_codec::{AnyPayloadDepacketizer, Codec};
 use h26x_codes::code::{NO_ROOM, NOTHING_YET, OK, OUT_OF_RANGE, codec_wanted, number_of};
@@ -112,6 +113,7 @@ pub struct AccessUnitEndpoint {
     codec: Codec,
     receiver: AccessUnitReceiver<AnyPayloadDepacketizer>,
     left: Option<ReceivedAccessUnit>,
+    nacks: Nacks,
 }
 
 /// What such an endpoint is to contracts.
@@ -132,7 +134,7 @@ impl GivesUnits for AccessUnitEndpoint {
 
     ghost units = { λ it. units_state it.codec
         (⟦<AccessUnitReceiver<AnyPayloadDepacketizer> as Receives>⟧.reception it.receiver)
-        (option_map received_unit_value it.left) };
+        (option_map received_unit_value it.left) it.nacks };
 
     fn counts(&self) -> Counts {
         self.receiver.counts()
@@ -161,6 +163,7 @@ impl AccessUnitEndpoint {
             codec,
             receiver: AccessUnitReceiver::new(alloc, depacketizer, config),
             left: None,
+            nacks: Nacks::new(alloc),
         }
     }
 
@@ -263,6 +266,29 @@ impl AccessUnitEndpoint {
         Ok(copy_first(&numbers, to))
     }
 
+    /// Copies the missing numbers that are to be asked for at this tick, in order, as many as there is
+    /// room for, which count as asked for; how many they are.
+    pub fn nacks(
+        &mut self,
+        now: u32,
+        times: NackTimes,
+        to: &mut [u16],
+    ) -> Result<usize, PacketError>
+        ensures count { IfOk result (λ count. count
+            ≡ length (units_nacks times now (length to.old) (units_state_of self.old))) }
+        ensures copied { IfOk result (λ count. to.new
+            ≡ with_first (units_nacks times now (length to.old) (units_state_of self.old)) to.old) }
+        ensures after { OnOk result (units_state_of self.new
+            ≡ units_nacked times now (length to.old) (units_state_of self.old)) }
+        ensures kept { OnErr result (units_state_of self.new ≡ units_state_of self.old) }
+        ensures kept_to { OnErr result (to.new ≡ to.old) }
+        ensures memory { OnErr result (result ≡ Err PacketError.OutOfMemory) }
+    {
+        let missing = self.receiver.missing()?;
+        let numbers = self.nacks.due(&missing, times, now, to.len())?;
+        Ok(copy_first(&numbers, to))
+    }
+
     /// Says the number of the first packet of the stream; the answer is whether none came, no number
     /// was told before, and the stream hasn't ended.
     pub fn begin_at(&mut self, sequence: u16) -> bool
@@ -285,5 +311,6 @@ impl AccessUnitEndpoint {
         ensures { units_state_of self.new ≡ units_restarted (units_state_of self.old) }
     {
         self.receiver.restart();
+        self.nacks.clear();
     }
 }

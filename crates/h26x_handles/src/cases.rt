@@ -72,20 +72,20 @@ pub fn next_by_answer()
         IsUnitGiven now it new to new_to (answers.Written told) → (unit : ReceivedAccessUnitValue)
         × IsNextGiven now it new.reception (Some unit) × (told ≡ unit_told unit)
         × (length unit.bytes ≤ length to) × (new_to ≡ unit.bytes ++ drop (length unit.bytes) to)
-        × (new ≡ units_state it.codec new.reception None) }
+        × (new ≡ units_state it.codec new.reception None it.nacks) }
     ensures no_room { (now : ℕ) (it new : UnitsState) (to new_to : List ℕ) (told : UnitTold) →
         IsUnitGiven now it new to new_to (answers.NoRoom told) → (unit : ReceivedAccessUnitValue)
         × IsNextGiven now it new.reception (Some unit) × (told ≡ unit_told unit)
         × (length to < length unit.bytes) × (new_to ≡ to)
-        × (new ≡ units_state it.codec new.reception (Some unit)) }
+        × (new ≡ units_state it.codec new.reception (Some unit) it.nacks) }
     ensures none { (now : ℕ) (it new : UnitsState) (to new_to : List ℕ) →
         IsUnitGiven now it new to new_to answers.NothingYet → IsNextGiven now it new.reception None
-        × (new_to ≡ to) × (new ≡ units_state it.codec new.reception None) }
+        × (new_to ≡ to) × (new ≡ units_state it.codec new.reception None it.nacks) }
     ensures kept { (now : ℕ) (codec : Codec) (r new : Reception)
         (unit kept : ReceivedAccessUnitValue) → IsNextGiven now (units_state codec r
-        (Some kept)) new (Some unit) → (unit ≡ kept) × (new ≡ r) }
+        (Some kept) []) new (Some unit) → (unit ≡ kept) × (new ≡ r) }
     ensures received { (now : ℕ) (codec : Codec) (r new : Reception)
-        (unit : ReceivedAccessUnitValue) → IsNextGiven now (units_state codec r None) new
+        (unit : ReceivedAccessUnitValue) → IsNextGiven now (units_state codec r None []) new
         (Some unit) → IsNext now r new (Some unit) }
 {}
 
@@ -94,15 +94,15 @@ pub fn next_by_answer()
 pub fn units_given()
     ensures room { (now : ℕ) (codec : Codec) (r : Reception) (other : ReceivedAccessUnitValue) →
         let unit = record other { bytes = 1 ∷ 2 ∷ [] } in
-        IsUnitGiven now (units_state codec r (Some unit)) (units_state codec r None)
+        IsUnitGiven now (units_state codec r (Some unit) []) (units_state codec r None [])
         (9 ∷ 9 ∷ 9 ∷ []) (1 ∷ 2 ∷ 9 ∷ []) (answers.Written (unit_told unit)) }
     ensures fits { (now : ℕ) (codec : Codec) (r : Reception) (other : ReceivedAccessUnitValue) →
         let unit = record other { bytes = 1 ∷ 2 ∷ [] } in
-        IsUnitGiven now (units_state codec r (Some unit)) (units_state codec r None)
+        IsUnitGiven now (units_state codec r (Some unit) []) (units_state codec r None [])
         (9 ∷ 9 ∷ []) (1 ∷ 2 ∷ []) (answers.Written (unit_told unit)) }
     ensures no_room { (now : ℕ) (codec : Codec) (r : Reception) (other : ReceivedAccessUnitValue) →
         let unit = record other { bytes = 1 ∷ 2 ∷ [] } in
-        IsUnitGiven now (units_state codec r (Some unit)) (units_state codec r (Some unit))
+        IsUnitGiven now (units_state codec r (Some unit) []) (units_state codec r (Some unit) [])
         (9 ∷ []) (9 ∷ []) (answers.NoRoom (unit_told unit)) }
     ensures none { (now : ℕ) (codec : Codec) (has_donl is_avc : Bool) (config : AccessUnitConfig) →
         let it = fresh_access_units codec has_donl is_avc config in
@@ -115,15 +115,15 @@ pub fn units_given()
 pub fn units_without_memory()
     ensures none { (now : ℕ) (it new : UnitsState) → IsOutOfMemory now it new → it.left ≡ None }
     ensures stays { (now : ℕ) (it new : UnitsState) → IsOutOfMemory now it new →
-        new ≡ units_state it.codec new.reception None }
+        new ≡ units_state it.codec new.reception None it.nacks }
     ensures not_due { (now : ℕ) (it new : UnitsState) → IsOutOfMemory now it new →
         it.reception.assembler.ended ≡ [] → it.reception.is_anew ≡ false →
         due_packet now it.reception.waiting ≡ None → new ≡ it }
     ensures kept { (now : ℕ) (codec : Codec) (r : Reception) →
-        IsOutOfMemory now (units_state codec r None) (units_state codec (without_bare r) None) }
+        IsOutOfMemory now (units_state codec r None []) (units_state codec (without_bare r) None []) }
     ensures anew { (now : ℕ) (codec : Codec) (r : Reception) →
-        IsOutOfMemory now (units_state codec r None)
-        (units_state codec (ended_if_anew (without_bare r)) None) }
+        IsOutOfMemory now (units_state codec r None [])
+        (units_state codec (ended_if_anew (without_bare r)) None []) }
 {}
 
 /// A packet that is held: whether it waits or was taken at once, the same is given out next.

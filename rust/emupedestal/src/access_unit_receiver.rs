@@ -27,13 +27,14 @@
 
 use crate::proved::h26x_access_units::AccessUnitReceiver as Units;
 use crate::proved::h26x_access_units::Receives as _;
+use crate::proved::h26x_access_units::Nacks;
 use crate::proved::h26x_codec::AnyPayloadDepacketizer;
 use crate::{Codec, HeldPacket, PacketError, RtpPacket};
 use alloc::vec::Vec;
 use core::fmt;
 
 pub use crate::proved::h26x_access_units::{
-    AccessUnitConfig, Counts, NotPushed, NotPushedReason, Pushed, ReceivedAccessUnit,
+    AccessUnitConfig, Counts, NackTimes, NotPushed, NotPushedReason, Pushed, ReceivedAccessUnit,
 };
 
 /// A window of 512 packets and no limit on the time; nothing waits at the beginning of a stream; a number 3000 or
@@ -78,6 +79,7 @@ impl core::error::Error for NotPushed {}
 #[derive(Debug)]
 pub struct AccessUnitReceiver {
     inner: Units<AnyPayloadDepacketizer>,
+    nacks: Nacks,
     codec: Codec,
 }
 
@@ -117,6 +119,7 @@ impl AccessUnitReceiver {
         depacketizer.is_avc = is_avc;
         AccessUnitReceiver {
             inner: Units::new(depacketizer, config),
+            nacks: Nacks::new(),
             codec,
         }
     }
@@ -177,6 +180,20 @@ impl AccessUnitReceiver {
         self.inner.missing()
     }
 
+    /// The numbers of [`missing`](Self::missing) that are to be asked for at this tick, in order, up to `most` of
+    /// them: each is asked for as `times` says, and counts as asked for. Others are due at the next call. A number
+    /// counts as missing since the first of the calls in a row that found it so: call it as often as `first` and
+    /// `again` ask for. The error is `OutOfMemory` alone: nothing counts as asked for then.
+    pub fn nacks(
+        &mut self,
+        now: u32,
+        times: NackTimes,
+        most: usize,
+    ) -> Result<Vec<u16>, PacketError> {
+        let missing = self.inner.missing()?;
+        self.nacks.due(&missing, times, now, most)
+    }
+
     /// When to call [`next`](Self::next) again at the latest, if packets wait and there is a `max_wait`, or of a
     /// stream that begins a `begin_wait`.
     pub fn deadline(&self) -> Option<u32> {
@@ -200,6 +217,7 @@ impl AccessUnitReceiver {
     /// counted stays.
     pub fn restart(&mut self) {
         self.inner.restart();
+        self.nacks.clear();
     }
 
     /// What was counted since it was made.

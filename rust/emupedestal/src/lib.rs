@@ -147,7 +147,7 @@ mod take_all;
 #[cfg(all(test, feature = "std"))]
 mod tests;
 
-pub use access_unit_receiver::{AccessUnitConfig, AccessUnitReceiver};
+pub use access_unit_receiver::{AccessUnitConfig, AccessUnitReceiver, NackTimes};
 pub use assembler::AccessUnitAssembler;
 pub use codec_depacketizer::CodecDepacketizer;
 pub use codec_packetizer::CodecPacketizer;

@@ -14,6 +14,7 @@ mod ends;
 mod every_unit;
 mod every_unit_received;
 mod look;
+mod nack_rows;
 mod numbers;
 mod packetizer;
 mod packets;

@@ -33,6 +33,7 @@ from .access_unit_receiver import (
     AccessUnitConfig,
     AccessUnitReceiver,
     Counts,
+    NackTimes,
     Pushed,
     RtpPacket,
 )
@@ -179,6 +180,7 @@ __all__ = [
     "Kind",
     "LevelSets",
     "LevelSetsError",
+    "NackTimes",
     "NaluTypeNotHandled",
     "NoRoom",
     "NotOfThisCodec",

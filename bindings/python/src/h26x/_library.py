@@ -66,6 +66,12 @@ class UnitsConfig(Structure):
     ]
 
 
+class NackTimesGiven(Structure):
+    """When missing numbers are asked for."""
+
+    _fields_ = [("first", c_uint32), ("again", c_uint32), ("most", c_uint8)]
+
+
 class UnitTold(Structure):
     """What is told of an access unit."""
 
@@ -148,6 +154,7 @@ _LONG = POINTER(c_uint64)
 _WHY = POINTER(Refusal)
 _SHOWN = POINTER(ShownPacket)
 _CONFIG = POINTER(UnitsConfig)
+_TIMES = POINTER(NackTimesGiven)
 _UNIT = POINTER(UnitTold)
 _COUNTS = POINTER(UnitsCounts)
 _SAID = POINTER(ConstraintsSaid)
@@ -218,6 +225,7 @@ CALLS: Dict[str, Tuple[Any, List[Any]]] = {
     "access_units_next": (c_uint32, [_HANDLE, c_uint32, *_OUT, _UNIT]),
     "access_units_deadline": (c_bool, [_HANDLE, _WORD]),
     "access_units_missing": (c_uint32, [_HANDLE, *_OUT, _SIZE]),
+    "access_units_nacks": (c_uint32, [_HANDLE, c_uint32, _TIMES, *_OUT, _SIZE]),
     "access_units_begin_at": (c_uint32, [_HANDLE, c_uint16, _WORD]),
     "access_units_finish": _DO,
     "access_units_restart": _DO,

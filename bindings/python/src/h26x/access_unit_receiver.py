@@ -8,7 +8,7 @@ from enum import IntEnum
 from typing import Any, Iterator, List, NamedTuple, NoReturn, Optional, Tuple
 
 from ._handle import Owner
-from ._library import Handle, UnitsConfig, UnitsCounts, UnitTold, library
+from ._library import Handle, NackTimesGiven, UnitsConfig, UnitsCounts, UnitTold, library
 from ._memory import Buffer, Room, as_bytes, number
 from .codec import Codec, codec_of
 from .depacketizer import KEYFRAME
@@ -46,6 +46,17 @@ class Pushed(IntEnum):
     ANEW = 5
     #: It is so far ahead, and no more than a window, or 100, from the one that waited alone: both wait.
     JUMPED = 6
+
+
+class NackTimes(NamedTuple):
+    """When `nacks` asks for a number that is missing, in the caller's ticks."""
+
+    #: How long it may come by itself, since the call that found it missing. 0: it is asked for there.
+    first: int
+    #: How long after it was asked for it is asked for again: a round trip, and some more.
+    again: int
+    #: How often it is asked for at most. 0: never.
+    most: int
 
 
 @dataclass(frozen=True)
@@ -315,6 +326,24 @@ class AccessUnitReceiver(Owner):
             room = Room()
             room.grow(count.value * _EACH_NUMBER)
             check(call(self._live(), room.address, count.value, byref(count)))
+        return room.view[: count.value * _EACH_NUMBER].cast("H").tolist()
+
+    def nacks(self, now: int, times: NackTimes, most: int = 512) -> List[int]:
+        """The numbers of `missing` that are to be asked for at this tick, in order, up to `most` of them: each is
+        asked for as `times` says, and counts as asked for. Others are due at the next call. A number counts as
+        missing since the first of the calls in a row that found it so: call it as often as `first` and `again`
+        ask for. Raises OutOfMemory: nothing counts as asked for then."""
+        count, room, call = c_size_t(), Room(), library.h26x_access_units_nacks
+        wanted = NackTimesGiven(
+            number("first", times.first, _TICKS),
+            number("again", times.again, _TICKS),
+            number("most", times.most, 255),
+        )
+        with self._lock:
+            check(library.h26x_access_units_missing(self._live(), None, 0, byref(count)))
+            wide = min(number("most", most, _TICKS), count.value)
+            room.grow(max(wide, 1) * _EACH_NUMBER)
+            check(call(self._live(), now, byref(wanted), room.address, wide, byref(count)))
         return room.view[: count.value * _EACH_NUMBER].cast("H").tolist()
 
     def begin_at(self, sequence: int) -> bool:

@@ -1,4 +1,4 @@
-use Rattle.std.proofs.Common.{rules, ◌≡◌, ◌∙◌, ap, sym, ℕ, suc, ◌+◌, ◌-◌, true, false, Some, None, arith}
+use Rattle.std.proofs.Common.{rules, ◌≡◌, ◌∙◌, ap, sym, ℕ, suc, ◌-◌, true, false, Some, None, arith}
 use Rattle.std.specs.Prelude.{is_some}
 use Rattle.h26x_access_units.specs.declared.content.Content.{Content}
 use Rattle.h26x_access_units.specs.Content.{no_content, content_with_unit, first_unit, content_from}

@@ -1,4 +1,4 @@
-use Rattle.std.proofs.Common.{◌≡◌, ◌∙◌, ap, Bool, ℕ}
+use Rattle.std.proofs.Common.{◌∙◌, ap, ℕ}
 use Rattle.h26x_reorder.specs.Rtp.{RtpBody}
 use Rattle.h26x_assembler.specs.Assembler.{assembly_at}
 use Rattle.h26x_assembler.specs.AccessUnit.{is_text_given_up}

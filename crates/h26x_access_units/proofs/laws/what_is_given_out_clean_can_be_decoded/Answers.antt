@@ -1,4 +1,3 @@
-use Rattle.std.proofs.Common.{refl}
 use Rattle.h26x_access_units.specs.Reception.{reception_answer}
 use Rattle.h26x_access_units.proofs.GivenLemmas.{push_given, next_given, begun_given, settings_given}
 use Rattle.h26x_access_units.proofs.laws.what_is_given_out_clean_can_be_decoded.Goals as goal

@@ -10,7 +10,7 @@ returns-clause-none c = λ now it new lacks. lacks.none
 
 pub returns-clause-stays : goal.returns-clause-stays
 returns-clause-stays c = λ now it new lacks.
-    lacks.stands ∙ ap (λ (left : Option ReceivedAccessUnitValue). units_state it.codec new.reception left) lacks.none
+    lacks.stands ∙ ap (λ (left : Option ReceivedAccessUnitValue). units_state it.codec new.reception left it.nacks) lacks.none
 
 pub returns-clause-not_due : goal.returns-clause-not_due
 returns-clause-not_due c = λ now it new lacks. not_changed now it new lacks.stands lacks.taken

@@ -17,7 +17,7 @@ pub struct Arrival {
 }
 
 /// Whether a number is behind the one that is due.
-fn is_passed(due: u16, number: u16) -> bool {
+pub(crate) fn is_passed(due: u16, number: u16) -> bool {
     number.wrapping_sub(due) >= HALF
 }
 

@@ -32,6 +32,15 @@ pub struct Config {
     pub unit_limit: usize,
 }
 
+/// When missing numbers are asked for.
+#[repr(C)]
+#[derive(Clone, Copy)]
+pub struct NackTimes {
+    pub first: u32,
+    pub again: u32,
+    pub most: u8,
+}
+
 /// What was counted.
 #[repr(C)]
 #[derive(Clone, Copy, Hash)]
@@ -65,6 +74,15 @@ fn settings(config: &Config) -> AccessUnitConfig {
         run_limit: config.run_limit,
         unit_limit: config.unit_limit,
         has_sets: config.has_sets,
+    }
+}
+
+/// When a receiver asks for missing numbers.
+fn nack_times(times: &NackTimes) -> crate::proved::h26x_access_units::NackTimes {
+    crate::proved::h26x_access_units::NackTimes {
+        first: times.first,
+        again: times.again,
+        most: times.most,
     }
 }
 
@@ -218,6 +236,28 @@ pub fn h26x_access_units_missing(
     count.write(0);
     match u.get() {
         Endpoint::AccessUnits(it) => match it.missing(numbers) {
+            Ok(all) => {
+                count.write(all);
+                OK
+            }
+            Err(_) => OUT_OF_MEMORY,
+        },
+        _ => WRONG_END,
+    }
+}
+
+/// Copies the missing numbers that are to be asked for at this tick, as many as there is room for, which
+/// count as asked for.
+pub fn h26x_access_units_nacks(
+    u: &mut Handle,
+    now: u32,
+    times: &NackTimes,
+    numbers: &mut [u16],
+    count: &mut MaybeUninit<usize>,
+) -> u32 {
+    count.write(0);
+    match u.get_mut() {
+        Endpoint::AccessUnits(it) => match it.nacks(now, nack_times(times), numbers) {
             Ok(all) => {
                 count.write(all);
                 OK

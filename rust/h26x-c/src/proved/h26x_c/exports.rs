@@ -7,6 +7,7 @@
 
 pub use super::access_units::Config;
 pub use super::access_units::Counts;
+pub use super::access_units::NackTimes;
 pub use super::const_handle::ConstHandle;
 pub use super::handle::Handle;
 pub use super::place::Place;
@@ -143,6 +144,28 @@ pub unsafe extern "C" fn h26x_access_units_missing(
     unsafe {
         super::access_units::h26x_access_units_missing(
             pointers::shared(u),
+            pointers::room(numbers, numbers_room),
+            pointers::output(count, &mut no_count),
+        )
+    }
+}
+
+#[unsafe(no_mangle)]
+pub unsafe extern "C" fn h26x_access_units_nacks(
+    u: *mut Handle,
+    now: u32,
+    times: *const NackTimes,
+    numbers: *mut u16,
+    numbers_room: usize,
+    count: *mut usize,
+) -> u32 {
+    let mut no_count = MaybeUninit::uninit();
+    // SAFETY: a caller owes what the header says.
+    unsafe {
+        super::access_units::h26x_access_units_nacks(
+            pointers::lent(u),
+            now,
+            pointers::shared(times),
             pointers::room(numbers, numbers_room),
             pointers::output(count, &mut no_count),
         )

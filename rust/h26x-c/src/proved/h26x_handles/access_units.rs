@@ -4,7 +4,8 @@
 //! room where it was to be written.
 
 use crate::proved::h26x_access_units::{
-    AccessUnitConfig, AccessUnitReceiver, Counts, Pushed, ReceivedAccessUnit, Receives,
+    AccessUnitConfig, AccessUnitReceiver, Counts, NackTimes, Nacks, Pushed, ReceivedAccessUnit,
+    Receives,
 };
 use crate::proved::h26x_codec::{AnyPayloadDepacketizer, Codec};
 use crate::proved::h26x_codes::code::{
@@ -101,6 +102,7 @@ pub struct AccessUnitEndpoint {
     codec: Codec,
     receiver: AccessUnitReceiver<AnyPayloadDepacketizer>,
     left: Option<ReceivedAccessUnit>,
+    nacks: Nacks,
 }
 
 /// What such an endpoint is to contracts.
@@ -130,6 +132,7 @@ impl AccessUnitEndpoint {
             codec,
             receiver: AccessUnitReceiver::new(depacketizer, config),
             left: None,
+            nacks: Nacks::new(),
         }
     }
 
@@ -190,6 +193,19 @@ impl AccessUnitEndpoint {
         Ok(copy_first(&numbers, to))
     }
 
+    /// Copies the missing numbers that are to be asked for at this tick, in order, as many as there is
+    /// room for, which count as asked for; how many they are.
+    pub fn nacks(
+        &mut self,
+        now: u32,
+        times: NackTimes,
+        to: &mut [u16],
+    ) -> Result<usize, PacketError> {
+        let missing = self.receiver.missing()?;
+        let numbers = self.nacks.due(&missing, times, now, to.len())?;
+        Ok(copy_first(&numbers, to))
+    }
+
     /// Says the number of the first packet of the stream; the answer is whether none came, no number
     /// was told before, and the stream hasn't ended.
     pub fn begin_at(&mut self, sequence: u16) -> bool {
@@ -205,5 +221,6 @@ impl AccessUnitEndpoint {
     /// The access unit that had no room stays.
     pub fn restart(&mut self) {
         self.receiver.restart();
+        self.nacks.clear();
     }
 }

@@ -1,4 +1,4 @@
-use Rattle.std.proofs.Common.{◌≡◌, ◌∙◌, ap, sym, Bool, map}
+use Rattle.std.proofs.Common.{◌∙◌, ap, sym, Bool, map}
 use Rattle.std.specs.Option.{option_map}
 use Rattle.h26x_reorder.specs.ReorderBuffer.{numbered_packet}
 use Rattle.h26x_assembler.specs.AccessUnit.{access_unit_value}

@@ -1,5 +1,5 @@
-use Rattle.std.proofs.Common.{rules, ◌≡◌, true, false, map, List, []}
-use Rattle.h26x_assembler.specs.AccessUnit.{access_unit_value, AccessUnitValue}
+use Rattle.std.proofs.Common.{rules, ◌≡◌, false, map}
+use Rattle.h26x_assembler.specs.AccessUnit.{access_unit_value}
 use Rattle.h26x_access_units.specs.Reception.{has_no_unit, ended_alone}
 use Rattle.h26x_access_units.proofs.ReceptionLemmas.{follows_ended, step_follows, step_both, where_true, none_ended}
 use Rattle.h26x_access_units.proofs.receiver.AccessUnitReceiver.step.Goals as goal

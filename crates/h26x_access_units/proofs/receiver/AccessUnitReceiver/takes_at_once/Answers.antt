@@ -4,7 +4,7 @@ use Rattle.std.specs.Option.{option_map}
 use Rattle.h26x_reorder.specs.Rtp.{RtpBody}
 use Rattle.h26x_reorder.specs.ReorderBuffer.{numbered_packet, goes_straight}
 use Rattle.h26x_assembler.specs.Assembler.{assembly_at}
-use Rattle.h26x_access_units.specs.Reception.{reception, has_no_unit, is_behind_missing, ends_before, is_taken_at_once}
+use Rattle.h26x_access_units.specs.Reception.{reception, has_no_unit, is_behind_missing}
 use Rattle.h26x_access_units.proofs.ReceptionLemmas.{not_at_once, not_before_end, at_once_else}
 use Rattle.h26x_access_units.proofs.receiver.AccessUnitReceiver.takes_at_once.Goals as goal
 

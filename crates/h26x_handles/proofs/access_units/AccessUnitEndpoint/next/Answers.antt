@@ -7,10 +7,10 @@ use Rattle.h26x_handles.proofs.access_units.AccessUnitEndpoint.next.Goals as goa
 pub returns-in-Some-clause-given : goal.returns-in-Some-clause-given
 returns-in-Some-clause-given c =
     let there : option_map received_unit_value c.args.self.now.left ≡ Some (received_unit_value c.in-Some.unit) = search rules in
-    kept_given _ _ _ _ _ _ _ _ _ there c.give.ensures.after c.give.ensures.put c.give.ensures.answer
+    kept_given _ _ _ _ _ _ _ _ _ _ there c.give.ensures.after c.give.ensures.put c.give.ensures.answer
 
 pub returns-clause-given : goal.returns-clause-given
 returns-clause-given c =
     let none : option_map received_unit_value c.args.self.now.left ≡ None = search rules in
     let some : option_map received_unit_value c.in_ok-unit.field-0 ≡ Some (received_unit_value c.in-Some-2.unit) = search rules in
-    next_given _ _ _ _ _ _ _ _ _ _ _ none c.in_ok-unit.ensures.next some c.give-2.ensures.after c.give-2.ensures.put c.give-2.ensures.answer
+    next_given _ _ _ _ _ _ _ _ _ _ _ _ none c.in_ok-unit.ensures.next some c.give-2.ensures.after c.give-2.ensures.put c.give-2.ensures.answer
