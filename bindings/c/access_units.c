@@ -299,7 +299,6 @@ static void check_other_settings(struct tally *t, const struct packets *p)
 {
     h26x_access_units_config config = settings(p->codec);
     struct receiving it = receiver_of(t, config);
-    h26x_access_units none = {NULL};
     holds(&it, 0, 10, 0, true, p->key);
     gives(&it, 100, p->key_unit, .first = 10, .last = 10, .extra = KEY, .is_clean = true);
     holds(&it, 100, 12, 3000, true, p->slice);
@@ -310,7 +309,6 @@ static void check_other_settings(struct tally *t, const struct packets *p)
     config.window = 1;
     expect(t, h26x_access_units_set_config(&it.u, &config) == H26X_OK);
     gives(&it, 100, p->slice_unit, .timestamp = 3000, .missing = 1, .first = 12, .last = 12, .extra = SLICE);
-    expect(t, h26x_access_units_set_config(&none, &config) == H26X_WRONG_END);
     h26x_access_units_free(it.u);
 }
 
@@ -949,6 +947,8 @@ static void check_other_ends(struct tally *t, void *at)
     uint16_t numbers[2] = {7, 7}, behind = 99;
     uint32_t pushed = 99, tick = 99;
     size_t count = 99;
+    const h26x_nack_times times = {0, 60, 2};
+    const h26x_access_units_config config = settings(H26X_H264);
     expect(t, h26x_access_units_push(&u, 0, 1, 2, true, packet, 2, &pushed, &behind) == H26X_WRONG_END);
     expect(t, h26x_access_units_skip(&u, 0, 1, &pushed, &behind) == H26X_WRONG_END);
     expect(t, pushed == 99 && behind == 99);
@@ -957,6 +957,10 @@ static void check_other_ends(struct tally *t, void *at)
     expect(t, !h26x_access_units_deadline(&u, &tick) && tick == 99);
     expect(t, h26x_access_units_missing(&u, numbers, 2, &count) == H26X_WRONG_END);
     expect(t, count == 0 && numbers[0] == 7);
+    count = 99;
+    expect(t, h26x_access_units_nacks(&u, 0, &times, numbers, 2, &count) == H26X_WRONG_END);
+    expect(t, count == 0 && numbers[0] == 7);
+    expect(t, h26x_access_units_set_config(&u, &config) == H26X_WRONG_END);
     expect(t, h26x_access_units_begin_at(&u, 1, &pushed) == H26X_WRONG_END && pushed == 99);
     expect(t, h26x_access_units_finish(&u) == H26X_WRONG_END);
     expect(t, h26x_access_units_restart(&u) == H26X_WRONG_END);

@@ -611,7 +611,7 @@ STUB(access_units_nacks);
 uint32_t proved_access_units_nacks(h26x_access_units *u, uint32_t now, const h26x_nack_times *times,
                                    uint16_t *numbers, size_t numbers_room, size_t *count)
 {
-    expect(u == &access_units && now == given.value && times == &nack_times);
+    expect(u == &access_units && now == (uint32_t)given.value && times == &nack_times);
     writes_numbers(numbers, numbers_room);
     is_output(count, given.first);
     return answer();
@@ -620,7 +620,7 @@ uint32_t proved_access_units_nacks(h26x_access_units *u, uint32_t now, const h26
 static void check_access_units_nacks(void)
 {
     give(NUMBERS | FIRST);
-    hands_on(h26x_access_units_nacks(&access_units, given.value, &nack_times, given.numbers,
+    hands_on(h26x_access_units_nacks(&access_units, (uint32_t)given.value, &nack_times, given.numbers,
                                      given.numbers_room, given.first));
 }
 

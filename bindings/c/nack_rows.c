@@ -52,7 +52,10 @@ static void walk(struct tally *t, char *row)
     h26x_access_units u;
     uint32_t pushed = 99;
     expect(t, h26x_access_units_new(&config, &u) == H26X_OK);
-    for (const char *step = strtok(row, " "); step != NULL; step = strtok(NULL, " ")) {
+    for (char *step = row, *next; *step != 0; step = next) {
+        next = step + strcspn(step, " ");
+        if (*next != 0)
+            *next++ = 0;
         if (step[0] == '?') {
             ask(t, &u, step);
         } else if (strcmp(step, "restart") == 0) {

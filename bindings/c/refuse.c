@@ -516,6 +516,7 @@ static void refuse_receiving_units(const struct codec *c)
     size_t count, missing = 9, wanted = c->sets_len + 2 + 4 + c->unit_header + DATA;
     uint32_t pushed = 9, at = 9;
     uint16_t behind = 9, numbers[8] = {9};
+    const h26x_nack_times times = {0, 60, 2};
     expect(h26x_packetizer_new(c->number, false, &p) == H26X_OK);
     expect(h26x_packetize(&p, LIMIT, (const uint8_t *)c->sets, c->sets_len, &count) == H26X_OK);
     expect(h26x_packetize(&p, LIMIT, unit, c->unit_header + DATA, &count) == H26X_OK && count == 4);
@@ -534,6 +535,11 @@ static void refuse_receiving_units(const struct codec *c)
     refuse_each(h26x_access_units_skip(&u, 7, 20, &pushed, &behind), pushed == 9);
     refuse_each(h26x_access_units_missing(&u, numbers, 8, &missing), missing == 0 && numbers[0] == 9);
     expect(missing == 6 && numbers[0] == 14 && numbers[5] == 19);
+    numbers[0] = 9;
+    refuse_each(h26x_access_units_nacks(&u, 7, &times, numbers, 2, &missing), missing == 0 && numbers[0] == 9);
+    expect(missing == 2 && numbers[0] == 14 && numbers[1] == 15);
+    refuse_each(h26x_access_units_nacks(&u, 7, &times, numbers, 8, &missing), missing == 0 && numbers[0] == 14);
+    expect(missing == 4 && numbers[0] == 16 && numbers[3] == 19);
     without_memory(h26x_access_units_deadline(&u, &at) && at == 57);
     without_memory(h26x_access_units_begin_at(&u, 9, &at) == H26X_OK && at == 0);
     refuse_each(h26x_access_units_next(&u, 57, to, ROOM, &told), told.len == 9);

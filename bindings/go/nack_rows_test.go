@@ -66,10 +66,10 @@ func nackStep(t *testing.T, r *h26x.AccessUnitReceiver, step string) string {
 			t.Errorf("%s: %v", step, pushed)
 		}
 		for {
-			if _, err := r.Next(0); errors.Is(err, h26x.ErrNothingYet) {
+			unit, err := r.Next(0)
+			done(t, err)
+			if unit == nil {
 				break
-			} else {
-				done(t, err)
 			}
 		}
 	}

@@ -10,5 +10,6 @@ pub mod LimitLemmas
 pub mod ReceptionLemmas
 pub mod MissingLemmas
 pub mod NackLemmas
+pub mod NackOrderLemmas
 pub mod DecodableLemmas
 pub mod GivenLemmas

@@ -1,6 +1,6 @@
 //! Laws of the definitions, each the contract of a function without a result.
 
-ghost use Rattle.std.specs.Prelude.{◌≡◌, ◌≤◌, ◌<◌, ◌^◌, ◌==◌, true, ℕ, Bool, List, [], ◌∷◌, ◌++◌, Option, length};
+ghost use Rattle.std.specs.Prelude.{◌≡◌, ◌≤◌, ◌<◌, ◌^◌, ◌==◌, true, ℕ, Bool, List, [], ◌∷◌, ◌++◌, Option, length, map};
 ghost use Rattle.std.specs.List.{list_any};
 ghost use Rattle.h26x_model.specs.Receive.DepacketizerState.{DepacketizerState};
 ghost use Rattle.h26x_reorder.specs.Rtp.{RtpBody};
@@ -11,6 +11,8 @@ ghost use Rattle.h26x_access_units.specs.ReceivedAccessUnit.{ReceivedAccessUnitV
 ghost use Rattle.h26x_access_units.specs.Reception.{Reception, fresh_reception, begun_reception, restarted, with_settings, ended_reception, reception_answer, after_reception, IsPushed, IsNext};
 ghost use Rattle.h26x_access_units.specs.Decodable.{GivenUnit, IsCleanWhereDecodable, WereGiven, IsGivenBehind};
 ghost use Rattle.h26x_access_units.specs.Passed.{is_told_taken, AreNumbers, AreSoonBehind};
+ghost use Rattle.h26x_access_units.specs.declared.nacks.Nack.{Nack};
+ghost use Rattle.h26x_access_units.specs.Nacks.{nacks_now, nack_among, AreNumbersInOrder};
 ghost use Rattle.h26x_access_units.specs.LostPictures.{SentPicture, IsToldWithoutLoss};
 ghost use Rattle.h26x_access_units.specs.Limits.{IsWithinLimits, StaysWithinLimits};
 
@@ -79,6 +81,14 @@ pub fn what_is_given_out_clean_can_be_decoded()
         WereGiven units (with_settings config s) }
     ensures begin { (number : ℕ) (s : Reception) (units : List GivenUnit) → WereGiven units s →
         WereGiven units (begun_reception number s) }
+{}
+
+/// Of numbers that are missing, in order, each stays known to have been asked for, or not, as it was;
+/// of one that wasn't known nothing was.
+pub fn what_was_asked_for_stays_known()
+    ensures { (now from : ℕ) (known : List Nack) (missing : List ℕ) → from < 2 ^ 16 →
+        AreNumbersInOrder from 0 (map (λ n. n.number) known) → AreNumbersInOrder from 0 missing →
+        nacks_now now known missing ≡ map (λ n. nack_among now n known) missing }
 {}
 
 /// Where frame numbers of H.264 tell that no reference picture is among what is missing, none is. That

@@ -16,6 +16,7 @@ mod frame_number;
 mod framing;
 mod jitter;
 pub mod laws;
+mod nack_cases;
 mod nacks;
 mod numbers;
 mod passed;

@@ -344,8 +344,8 @@ pub extern "C" fn h26x_access_units_nacks(
     *count = 0;
     match u.get_mut() {
         Endpoint::AccessUnits(it) => match it.nacks(now, nack_times(times), numbers) {
-            Ok(all) => {
-                *count = all;
+            Ok(asked) => {
+                *count = asked;
                 OK
             }
             Err(_) => OUT_OF_MEMORY,

@@ -285,8 +285,8 @@ impl AccessUnitEndpoint {
         ensures memory { OnErr result (result ≡ Err PacketError.OutOfMemory) }
     {
         let missing = self.receiver.missing()?;
-        let numbers = self.nacks.due(&missing, times, now, to.len())?;
-        Ok(copy_first(&numbers, to))
+        let asked = self.nacks.due(&missing, times, now, to.len())?;
+        Ok(copy_first(&asked, to))
     }
 
     /// Says the number of the first packet of the stream; the answer is whether none came, no number
