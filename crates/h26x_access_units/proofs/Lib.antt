@@ -11,3 +11,4 @@ pub mod ReceptionLemmas
 pub mod MissingLemmas
 pub mod DecodableLemmas
 pub mod GivenLemmas
+pub mod AccountLemmas

@@ -13,5 +13,6 @@ pub mod Decoder
 pub mod ReceivedAccessUnit
 pub mod Reception
 pub mod Decodable
+pub mod Account
 pub mod Missing
 pub mod Limits

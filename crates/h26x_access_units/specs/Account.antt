@@ -1,0 +1,130 @@
+-- What becomes of the packets that are given to a receiver, by the whole list of calls (RFC 3550, 5.1,
+-- A.1; ours).
+use Rattle.std.specs.Prelude.{◌≡◌, ℕ, ◌+◌, ◌≤◌, ◌<◌, ◌^◌, Bool, true, false, if◌then◌else◌, List, [], ◌∷◌, ◌++◌, Option, Some, None, IsPermutation}
+use Rattle.std.specs.List.{list_any}
+use Rattle.h26x_core.specs.Sequence.{next_sequence_number, distance_ahead}
+use Rattle.h26x_reorder.specs.Rtp.{RtpBody}
+use Rattle.h26x_reorder.specs.ReorderBuffer.{IsHeldInOrder}
+use Rattle.h26x_access_units.specs.declared.config.AccessUnitConfig.{AccessUnitConfig}
+use Rattle.h26x_access_units.specs.declared.pushed.Pushed.{Pushed}
+use Rattle.h26x_access_units.specs.declared.pushed.Pushed.TheVariants as pushes
+use Rattle.h26x_access_units.specs.declared.pushed.NotPushedReason.{NotPushedReason}
+use Rattle.h26x_access_units.specs.Pushed.{is_kept, IsNotPushedReason}
+use Rattle.h26x_access_units.specs.ReceivedAccessUnit.{ReceivedAccessUnitValue}
+use Rattle.h26x_access_units.specs.Reception.{Reception, reception_answer, refused_reception, ended_reception, restarted, with_settings, begun_reception, IsPushed, IsNext, IsDrainedInPart}
+
+-- a call of a receiver, with its tick and what it answered: `push`; `push_held` whose packet came back;
+-- `next`; `next` for which memory lacked; `finish`; `restart`; `set_config`; `begin_at`
+pub data ReceiverCall : Type 0 where
+  PushCall : (now : ℕ) (packet : ℕ × RtpBody) (answer : Pushed) → ReceiverCall
+  BackCall : (packet : ℕ × RtpBody) (reason : NotPushedReason) → ReceiverCall
+  NextCall : (now : ℕ) (unit : Option ReceivedAccessUnitValue) → ReceiverCall
+  LackCall : (now : ℕ) → ReceiverCall
+  FinishCall : ReceiverCall
+  RestartCall : ReceiverCall
+  SettingsCall : (config : AccessUnitConfig) → ReceiverCall
+  BeginCall : (number : ℕ) → ReceiverCall
+
+-- what a call makes of a receiver
+abbrev pub IsCall : ReceiverCall → Reception → Reception → Type 0
+IsCall (PushCall now p answer) s new = (p.0 < 2 ^ 16) × (answer ≡ reception_answer s p)
+    × IsPushed now s p answer new
+IsCall (BackCall p reason) s new = IsNotPushedReason (reception_answer s p) reason
+    × (new ≡ refused_reception s reason)
+IsCall (NextCall now unit) s new = IsNext now s new unit
+IsCall (LackCall now) s new = IsDrainedInPart now s new
+IsCall FinishCall s new = new ≡ ended_reception s
+IsCall RestartCall s new = new ≡ restarted s
+IsCall (SettingsCall config) s new = new ≡ with_settings config s
+IsCall (BeginCall number) s new = (number < 2 ^ 16) × (new ≡ begun_reception number s)
+
+-- what calls make of it, any whatever, the last one first
+pub data AreReceiverCalls (s : Reception) : List ReceiverCall → Reception → Type 0 where
+  no_call : AreReceiverCalls s [] s
+  one_call : {call : ReceiverCall} {before : List ReceiverCall} {t new : Reception} →
+      AreReceiverCalls s before t → IsCall call t new → AreReceiverCalls s (call ∷ before) new
+
+-- the packets that were pushed and not told Late, Twice or Full, the last one first
+abbrev pub kept_packets : List ReceiverCall → List (ℕ × RtpBody)
+kept_packets [] = []
+kept_packets (PushCall now p answer ∷ before) =
+    if is_kept answer then p ∷ kept_packets before else kept_packets before
+kept_packets (call ∷ before) = kept_packets before
+
+-- whether packets that were kept may be dropped by a call or since: one waits alone, and it or those
+-- that wait may be left for the others, or `restart` drops all
+abbrev pub may_drop : ReceiverCall → Bool
+may_drop (PushCall now p pushes.Stray) = true
+may_drop RestartCall = true
+may_drop call = false
+
+-- whether a stream ends by a call: its numbers begin anew
+abbrev pub ends_stream : ReceiverCall → Bool
+ends_stream (PushCall now p pushes.Anew) = true
+ends_stream FinishCall = true
+ends_stream RestartCall = true
+ends_stream call = false
+
+-- how many do
+abbrev pub ended_streams : List ReceiverCall → ℕ
+ended_streams [] = 0
+ended_streams (call ∷ before) =
+    if ends_stream call then ended_streams before + 1 else ended_streams before
+
+-- What became of the packets that were kept, the last one first: those of the stream that were handed
+-- to the assembler of access units, those of so many streams before, and those that were dropped.
+pub record Account : Type 0 where
+  pub handed : List (ℕ × RtpBody)
+  pub earlier : List (ℕ × RtpBody)
+  pub streams : ℕ
+  pub dropped : List (ℕ × RtpBody)
+
+-- none was kept
+abbrev pub no_account : Account
+no_account = record { handed = []; earlier = []; streams = 0; dropped = [] }
+
+-- the packet that waits alone, if one does
+abbrev pub packet_alone : Option (ℕ × RtpBody) → List (ℕ × RtpBody)
+packet_alone None = []
+packet_alone (Some stray) = stray ∷ []
+
+-- Each packet that was kept was handed on, waits, or was dropped, and none twice; none is dropped
+-- where no call drops one.
+pub record IsEachAccounted (calls : List ReceiverCall) (s : Reception) (a : Account) : Type 0 where
+  pub exact : IsPermutation (kept_packets calls) ((a.dropped ++ packet_alone s.stray)
+      ++ ((a.handed ++ a.earlier) ++ s.waiting.buffer.held))
+  pub none_dropped : list_any may_drop calls ≡ false → a.dropped ++ packet_alone s.stray ≡ []
+
+-- packets, the last one first, each with a number ahead of the one before, by half of the circle at
+-- most (RFC 3550, 5.1)
+abbrev pub AreInTurnBack : List (ℕ × RtpBody) → Type 0
+AreInTurnBack [] = Unit {0}
+AreInTurnBack (p ∷ []) = Unit {0}
+AreInTurnBack (p ∷ q ∷ before) = (distance_ahead (next_sequence_number q.0) p.0 < 2 ^ 15)
+    × AreInTurnBack (q ∷ before)
+
+-- so it is of so many streams, one after the other
+pub data AreStreams : ℕ → List (ℕ × RtpBody) → Type 0 where
+  no_stream : AreStreams 0 []
+  one_stream : (n : ℕ) (stream before : List (ℕ × RtpBody)) → AreStreams n before →
+      AreInTurnBack stream → AreStreams (n + 1) (stream ++ before)
+
+-- the number that is due is the one behind the last packet that was handed on
+abbrev pub IsDueBehind : Option ℕ → List (ℕ × RtpBody) → Type 0
+IsDueBehind due [] = Unit {0}
+IsDueBehind due (p ∷ before) = due ≡ Some (next_sequence_number p.0)
+
+-- Packets are handed on in the order of their numbers, in as many streams as end; those that wait are
+-- in order too, and ahead of the last.
+pub record AreHandedInOrder (calls : List ReceiverCall) (s : Reception) (a : Account) : Type 0 where
+  pub turn : AreInTurnBack a.handed
+  pub before : AreStreams a.streams a.earlier
+  pub few : a.streams ≤ ended_streams calls
+  pub due : IsDueBehind s.waiting.buffer.due a.handed
+  pub waits : IsHeldInOrder s.waiting.buffer.due s.waiting.buffer.held
+
+-- all of this
+pub record IsAccounted (calls : List ReceiverCall) (s : Reception) : Type 0 where
+  pub account : Account
+  pub each : IsEachAccounted calls s account
+  pub order : AreHandedInOrder calls s account

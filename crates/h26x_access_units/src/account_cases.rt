@@ -1,0 +1,78 @@
+//! Worked cases of what becomes of packets, each the contract of a function without a result.
+
+ghost use Rattle.std.specs.Prelude.{◌≡◌, ℕ, List, true, false, None, Some, [], ◌∷◌};
+ghost use Rattle.std.specs.List.{list_any};
+ghost use Rattle.h26x_model.specs.Receive.DepacketizerState.{DepacketizerState};
+ghost use Rattle.h26x_reorder.specs.Rtp.{RtpBody, rtp_body};
+ghost use Rattle.h26x_access_units.specs.declared.config.AccessUnitConfig.{AccessUnitConfig};
+ghost use Rattle.h26x_access_units.specs.Reception.{fresh_reception, after_reception, ended_reception, restarted};
+ghost use Rattle.h26x_access_units.specs.Account.{PushCall, BackCall, NextCall, FinishCall, RestartCall, BeginCall, AreReceiverCalls, kept_packets, may_drop, ended_streams, packet_alone, AreInTurnBack, AreStreams, IsDueBehind, IsAccounted};
+
+use crate::pushed::{NotPushedReason, Pushed};
+
+/// Of packets that came one after the other those told `Late`, `Twice` or `Full`, or that came back,
+/// aren't kept.
+pub fn packets_that_are_kept()
+    ensures each { let b = rtp_body 0 false [] in kept_packets (PushCall 0 (7, b) Pushed.Held
+        ∷ PushCall 0 (6, b) (Pushed.Late 1) ∷ PushCall 0 (5, b) Pushed.Twice
+        ∷ PushCall 0 (4, b) Pushed.Full ∷ PushCall 0 (3, b) Pushed.Stray ∷ FinishCall
+        ∷ PushCall 0 (2, b) Pushed.Jumped ∷ PushCall 0 (1, b) Pushed.Anew
+        ∷ BackCall (0, b) NotPushedReason.OutOfMemory ∷ [])
+        ≡ (7, b) ∷ (3, b) ∷ (2, b) ∷ (1, b) ∷ [] }
+    ensures none { kept_packets [] ≡ [] }
+    ensures alone { packet_alone (Some (7, rtp_body 0 false [])) ≡ (7, rtp_body 0 false []) ∷ [] }
+    ensures none_alone { packet_alone None ≡ [] }
+{}
+
+/// Packets may be dropped where one is told `Stray`, and by `restart`, and else none is.
+pub fn packets_that_may_be_dropped()
+    ensures none { let b = rtp_body 0 false [] in list_any may_drop (PushCall 0 (7, b) Pushed.Held
+        ∷ PushCall 0 (6, b) (Pushed.Late 1) ∷ PushCall 0 (7, b) Pushed.Twice
+        ∷ PushCall 0 (8, b) Pushed.Full ∷ PushCall 0 (9, b) Pushed.Jumped
+        ∷ PushCall 0 (9, b) Pushed.Anew ∷ BeginCall 9 ∷ FinishCall ∷ NextCall 0 None ∷ [])
+        ≡ false }
+    ensures restart { may_drop RestartCall ≡ true }
+    ensures alone { may_drop (PushCall 0 (7, rtp_body 0 false []) Pushed.Stray) ≡ true }
+{}
+
+/// A stream ends where it begins anew, by `finish` and by `restart`, and by no other call.
+pub fn streams_that_end()
+    ensures all { let b = rtp_body 0 false [] in ended_streams (PushCall 0 (7, b) Pushed.Anew
+        ∷ FinishCall ∷ PushCall 0 (7, b) Pushed.Held ∷ RestartCall ∷ PushCall 0 (7, b) Pushed.Stray
+        ∷ PushCall 0 (7, b) Pushed.Jumped ∷ BeginCall 7 ∷ NextCall 0 None ∷ []) ≡ 3 }
+    ensures none { ended_streams [] ≡ 0 }
+{}
+
+/// A packet is in turn behind 5 up to 32773, and where numbers go round.
+pub fn packets_in_turn()
+    ensures next { let b = rtp_body 0 false [] in AreInTurnBack ((6, b) ∷ (5, b) ∷ []) }
+    ensures most { let b = rtp_body 0 false [] in AreInTurnBack ((32773, b) ∷ (5, b) ∷ []) }
+    ensures over { let b = rtp_body 0 false [] in AreInTurnBack ((32774, b) ∷ (5, b) ∷ []) → ⊥ }
+    ensures twice { let b = rtp_body 0 false [] in AreInTurnBack ((5, b) ∷ (5, b) ∷ []) → ⊥ }
+    ensures round { let b = rtp_body 0 false [] in
+        AreInTurnBack ((1, b) ∷ (0, b) ∷ (65535, b) ∷ []) }
+    ensures due { let b = rtp_body 0 false [] in IsDueBehind (Some 0) ((65535, b) ∷ []) }
+    ensures not_due { let b = rtp_body 0 false [] in IsDueBehind (Some 7) ((7, b) ∷ []) → ⊥ }
+{}
+
+/// Of two streams the second begins with any number.
+pub fn streams_one_after_the_other()
+    ensures two { let b = rtp_body 0 false [] in AreStreams 2 ((5, b) ∷ (6, b) ∷ (5, b) ∷ []) }
+    ensures none { AreStreams 0 [] }
+{}
+
+/// A packet is pushed to a receiver that is new, it is ended and begun again, and settings are given:
+/// calls that can be made, and packets accounted for.
+pub fn calls_of_a_receiver()
+    ensures pushed { (config : AccessUnitConfig) (state : DepacketizerState) →
+        let s = fresh_reception (record config { window = 64; held_limit = 9 }) state in
+        let p : ℕ × RtpBody = (7, rtp_body 0 false []) in
+        AreReceiverCalls s (PushCall 0 p Pushed.Held ∷ []) (after_reception 0 s p Pushed.Held) }
+    ensures restarted { (config : AccessUnitConfig) (state : DepacketizerState) →
+        let s = fresh_reception config state in AreReceiverCalls s (RestartCall ∷ FinishCall ∷ [])
+        (restarted (ended_reception s)) }
+    ensures accounted { (config : AccessUnitConfig) (state : DepacketizerState) →
+        let s = fresh_reception (record config { window = 64; held_limit = 9 }) state in
+        let p : ℕ × RtpBody = (7, rtp_body 0 false []) in
+        IsAccounted (PushCall 0 p Pushed.Held ∷ []) (after_reception 0 s p Pushed.Held) }
+{}
