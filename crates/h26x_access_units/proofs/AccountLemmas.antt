@@ -1,6 +1,6 @@
 -- What became of the packets that were given to a receiver.
-use Rattle.std.proofs.Common.{◌≡◌, ◌∙◌, ap, sym, subst, refl, ℕ, ◌+◌, ◌≤◌, ◌<◌, Bool, true, false, cond, List, [], ◌∷◌, ◌++◌, length, Option, Some, None, append_assoc, arith, inl, inr}
-use Rattle.std.specs.Prelude.{◌==◌, ◌||◌, ◌&&◌, nat_lt, slice_get, MatchBool, IsPermutation, ◌⊎◌}
+use Rattle.std.proofs.Common.{◌≡◌, ◌∙◌, ap, sym, subst, refl, ℕ, ◌+◌, ◌≤◌, ◌<◌, Bool, true, false, cond, List, [], ◌∷◌, ◌++◌, length, Option, Some, None, append_assoc, arith, inl, inr, Result, Ok, Err}
+use Rattle.std.specs.Prelude.{◌==◌, ◌||◌, ◌&&◌, nat_lt, slice_get, MatchBool, IsPermutation, ◌⊎◌, not, if◌then◌else◌}
 use Rattle.std.specs.List.{list_any}
 use Rattle.std.proofs.lemmas.List.{append-nil}
 use Rattle.std.proofs.lemmas.List.Sorted.{IsPermutation-refl, IsPermutation-sym, IsPermutation-cons, IsPermutation-trans, IsPermutation-to_front, IsPermutation-append_left, IsPermutation-append_right, IsPermutation-append_comm, IsPermutation-middle}
@@ -12,7 +12,7 @@ use Rattle.h26x_reorder.specs.ReorderBuffer.{BufferState, buffer_state, due_at, 
 use Rattle.h26x_reorder.specs.declared.pushed.Pushed as buffers
 use Rattle.h26x_reorder.specs.declared.pushed.Pushed.TheVariants as buffered
 use Rattle.h26x_reorder.proofs.BufferLemmas.{order_at, put_in_order, put_held, rest_in_order}
-use Rattle.h26x_assembler.specs.AccessUnit.{AccessUnitValue}
+use Rattle.h26x_assembler.specs.AccessUnit.{AccessUnitValue, Assembly, open_assembly, none_open, given_out, ended_by, after_taken_rtp, with_unit_within, after_rtp, behind_missing, after_unit_skip, after_pass_over, after_ending, after_finishing, is_run_closed, whole_if, unit_with, taken_by}
 use Rattle.h26x_access_units.specs.declared.config.AccessUnitConfig.{AccessUnitConfig}
 use Rattle.h26x_access_units.specs.declared.pushed.Pushed.{Pushed}
 use Rattle.h26x_access_units.specs.declared.pushed.Pushed.TheVariants as pushes
@@ -22,8 +22,14 @@ use Rattle.h26x_access_units.specs.Numbers.{bears_nothing}
 use Rattle.h26x_access_units.specs.Pushed.{as_pushed}
 use Rattle.h26x_access_units.specs.JitterBuffer.{JitterState, fresh_jitter, may_tell_first, with_held_limit, is_pressed, is_full, jitter_answer, after_jitter, with_packet, with_two, has_room_for, due_packet, without_due}
 use Rattle.h26x_access_units.specs.ReceivedAccessUnit.{ReceivedAccessUnitValue}
-use Rattle.h26x_access_units.specs.Reception.{Reception, fresh_reception, begun_reception, restarted, is_behind_stray, is_near_stray, answer_on, way_of, reception_answer, pushed_to, anew_of, held_with, after_reception, is_taken_at_once, is_behind_missing, IsDueTaken, IsEndedBefore, ended_behind_missing, ended_by_content, IsPushed, NoneIsDueUnlessEnded, IsDrained, none, bare, more, behind, IsDrainedInPart, bare_passed, without_bare, without_bare_of, ended_if_anew, ended_if_over, ended_reception, after_finish, has_no_unit, without_given, without_given_of, with_settings, IsNext}
-use Rattle.h26x_access_units.specs.Account.{ReceiverCall, PushCall, BackCall, NextCall, LackCall, FinishCall, RestartCall, SettingsCall, BeginCall, IsCall, AreReceiverCalls, no_call, one_call, kept_packets, may_drop, ended_streams, Account, no_account, packet_alone, AreInTurnBack, AreStreams, no_stream, one_stream, IsDueBehind, IsAccounted}
+use Rattle.h26x_access_units.specs.Reception.{Reception, fresh_reception, begun_reception, restarted, is_behind_stray, is_near_stray, answer_on, way_of, reception_answer, pushed_to, anew_of, held_with, after_reception, is_taken_at_once, is_behind_missing, IsDueTaken, IsEndedBefore, ended_behind_missing, ended_by_content, IsPushed, NoneIsDueUnlessEnded, IsDrained, none, bare, more, behind, IsDrainedInPart, bare_passed, without_bare, without_bare_of, ended_if_anew, ended_if_over, ended_reception, after_finish, has_no_unit, without_given, without_given_of, with_settings, IsNext, begun_for, believed, framing_at, ends_with, after_no_unit, is_no_unit, assembly_after, marker_forgotten, unit_given, unit_given_of, has_bare, IsAnswerTo}
+use Rattle.h26x_core.specs.declared.error.PacketError.{PacketError}
+use Rattle.h26x_receiver.specs.declared.received.Received.{Received}
+use Rattle.h26x_receiver.specs.declared.received.Received.TheVariants as received
+use Rattle.h26x_receiver.specs.Sequenced.{is_run_kept, expected_after_skip, after_taken_packet}
+use Rattle.h26x_core.specs.declared.error.PacketError.TheVariants.{OutOfMemory}
+use Rattle.h26x_access_units.specs.declared.framing.Framing.{Framing}
+use Rattle.h26x_access_units.specs.Account.{ReceiverCall, PushCall, BackCall, NextCall, LackCall, FinishCall, RestartCall, SettingsCall, BeginCall, IsCall, AreReceiverCalls, no_call, one_call, kept_packets, may_drop, ended_streams, Account, no_account, packet_alone, AreInTurnBack, AreStreams, no_stream, one_stream, IsDueBehind, IsAccounted, IsAssemblerOf, new_assembler, one_taken, unit_ended, stream_ended, number_told, rest_dropped, texts_given, texts_of, AreGivenAssembled}
 use Rattle.h26x_access_units.proofs.WaitingLemmas.{held_is, first_went}
 
 abbrev Packet : Type 0
@@ -343,9 +349,127 @@ none_alone x None is = refl
 none_alone [] (Some p) is = absurd (let bad = is in cc)
 none_alone (q ∷ x) (Some p) is = absurd (let bad = is in cc)
 
+-- an assembler to which access units that are gone were put back
+abbrev with_gone : List AccessUnitValue → Assembly → Assembly
+with_gone gone a = record a { ended = gone ++ a.ended }
+
+module _ (gone : List AccessUnitValue) where
+  ending_back : (a : Assembly) → after_ending (with_gone gone a) ≡ with_gone gone (after_ending a)
+  ending_back a = ap (λ (e : List AccessUnitValue). record (after_ending a) { ended = e }) (append_assoc gone a.ended (given_out (not a.is_gap && is_run_closed a.state.run) a.unit))
+
+  finishing_back : (a : Assembly) → after_finishing (with_gone gone a) ≡ with_gone gone (after_finishing a)
+  finishing_back a = ap (λ (e : List AccessUnitValue). record (after_finishing a) { ended = e }) (append_assoc gone a.ended (given_out false a.unit))
+
+  skip_back : (a : Assembly) (number : ℕ) → after_unit_skip (with_gone gone a) number ≡ with_gone gone (after_unit_skip a number)
+  skip_back a number = elim (is_run_kept a.expected number) as (λ b.
+      cond b (record (with_gone gone a) { expected = expected_after_skip a.expected number }) (behind_missing (with_gone gone a) number)
+      ≡ with_gone gone (cond b (record a { expected = expected_after_skip a.expected number }) (behind_missing a number))) [ true ↦ refl | false ↦ refl ]
+
+  over_back : (a : Assembly) (number : ℕ) → after_pass_over (with_gone gone a) number ≡ with_gone gone (after_pass_over a number)
+  over_back a number = elim (is_late a.expected number) as (λ b.
+      cond b (with_gone gone a) (behind_missing (with_gone gone a) number) ≡ with_gone gone (cond b a (behind_missing a number))) [ true ↦ refl | false ↦ refl ]
+
+  taken_back : (most limit : ℕ) (a : Assembly) (p : Packet) → with_unit_within limit (after_taken_rtp most (with_gone gone a) p) ≡ with_gone gone (with_unit_within limit (after_taken_rtp most a p))
+  taken_back most limit a p =
+      let own = (if p.1.marker then whole_if (is_run_closed (after_taken_packet most (taken_by a p.1.timestamp) p.0 p.1.payload).at_work.state.run) (unit_with most a p) ∷ [] else []) in
+      ap (λ (e : List AccessUnitValue). record (with_unit_within limit (after_taken_rtp most a p)) { ended = e })
+      (ap (λ (e : List AccessUnitValue). e ++ own) (append_assoc gone a.ended (ended_by a p)) ∙ append_assoc gone (a.ended ++ ended_by a p) own)
+
+  rtp_back : (most limit : ℕ) (a : Assembly) (p : Packet) (answer : Result Received PacketError) → after_rtp most limit (with_gone gone a) p answer ≡ with_gone gone (after_rtp most limit a p answer)
+  rtp_back most limit a p (Ok (received.Late n)) = refl
+  rtp_back most limit a p (Ok received.InOrder) = taken_back most limit a p
+  rtp_back most limit a p (Ok (received.Gap n)) = taken_back most limit a p
+  rtp_back most limit a p (Ok (received.TooLong n)) = taken_back most limit a p
+  rtp_back most limit a p (Err error) = refl
+
+  no_unit_back : (a : Assembly) (p : Packet) → after_no_unit (with_gone gone a) p ≡ with_gone gone (after_no_unit a p)
+  no_unit_back a p = elim (ends_with a p) as (λ b. after_unit_skip (cond b (after_ending (with_gone gone a)) (with_gone gone a)) p.0 ≡ with_gone gone (after_unit_skip (cond b (after_ending a) a) p.0)) [
+    | true ↦ ap (λ (x : Assembly). after_unit_skip x p.0) (ending_back a) ∙ skip_back (after_ending a) p.0
+    | false ↦ skip_back a p.0
+  ]
+
+  after_back : (most limit : ℕ) (a : Assembly) (p : Packet) (answer : Result Received PacketError) → assembly_after most limit (with_gone gone a) p answer ≡ with_gone gone (assembly_after most limit a p answer)
+  after_back most limit a p (Ok answer) = elim (bears_nothing p.1.payload) as (λ b.
+      cond b (after_unit_skip (with_gone gone a) p.0) (after_rtp most limit (with_gone gone a) p (Ok answer)) ≡ with_gone gone (cond b (after_unit_skip a p.0) (after_rtp most limit a p (Ok answer)))) [
+        | true ↦ skip_back a p.0
+        | false ↦ rtp_back most limit a p (Ok answer)
+      ]
+  after_back most limit a p (Err error) = elim (is_no_unit a error p.1.payload) as (λ b.
+      cond b (after_no_unit (with_gone gone a) p) (after_pass_over (with_gone gone a) p.0) ≡ with_gone gone (cond b (after_no_unit a p) (after_pass_over a p.0))) [
+        | true ↦ no_unit_back a p
+        | false ↦ over_back a p.0
+      ]
+
+texts_more : (units more_units : List AccessUnitValue) → texts_of (units ++ more_units) ≡ texts_of units ++ texts_of more_units
+texts_more [] more_units = refl
+texts_more (unit ∷ units) more_units = elim (bears_nothing unit.bytes) as (λ b.
+    cond b (texts_of (units ++ more_units)) ((unit.timestamp, unit.bytes) ∷ texts_of (units ++ more_units))
+    ≡ cond b (texts_of units) ((unit.timestamp, unit.bytes) ∷ texts_of units) ++ texts_of more_units) [
+      | true ↦ texts_more units more_units
+      | false ↦ ap (λ (l : List (ℕ × List ℕ)). (unit.timestamp, unit.bytes) ∷ l) (texts_more units more_units)
+    ]
+
+-- what an assembler brings of these packets, of which these texts were given out
+record Made (texts : List (ℕ × List ℕ)) (packets : Packets) (a : Assembly) : Type 0 where
+  gone : List AccessUnitValue
+  made : IsAssemblerOf packets (with_gone gone a)
+  texts_are : texts ≡ texts_of gone
+
+module _ (texts : List (ℕ × List ℕ)) (packets : Packets) (a : Assembly) (it : Made texts packets a) where
+  finishing_made : Made texts packets (after_finishing a)
+  finishing_made = record {
+    gone = it.gone;
+    made = subst (IsAssemblerOf packets) (finishing_back it.gone a) (stream_ended packets (with_gone it.gone a) it.made);
+    texts_are = it.texts_are;
+  }
+
+  ending_made : Made texts packets (after_ending a)
+  ending_made = record {
+    gone = it.gone;
+    made = subst (IsAssemblerOf packets) (ending_back it.gone a) (unit_ended packets (with_gone it.gone a) it.made);
+    texts_are = it.texts_are;
+  }
+
+  told_made : (number : ℕ) → Made texts packets (record a { expected = Some number })
+  told_made number = record { gone = it.gone; made = number_told number packets (with_gone it.gone a) it.made; texts_are = it.texts_are }
+
+  restart_made : Made texts packets (open_assembly a.state None none_open [])
+  restart_made = record {
+    gone = it.gone;
+    made = subst (λ (e : List AccessUnitValue). IsAssemblerOf packets (open_assembly a.state None none_open e)) (sym (append-nil it.gone))
+        (rest_dropped it.gone a.ended packets (with_gone it.gone a) it.made refl);
+    texts_are = it.texts_are;
+  }
+
+  taken_made : (most limit : ℕ) (framing : Framing) (p : Packet) (answer : Result Received PacketError) → IsAnswerTo most (begun_for a p) (believed framing p) answer → (answer ≡ Err OutOfMemory → ⊥) →
+      Made texts (p ∷ packets) (marker_forgotten (assembly_after most limit (begun_for a p) (believed framing p) answer))
+  taken_made most limit framing p answer answered room = record {
+    gone = it.gone;
+    made = subst (IsAssemblerOf (p ∷ packets)) (ap marker_forgotten (after_back it.gone most limit (begun_for a p) (believed framing p) answer))
+        (one_taken most limit framing p answer packets (with_gone it.gone a) it.made answered room);
+    texts_are = it.texts_are;
+  }
+
+  -- the first that ended is gone
+  first_made : (unit : AccessUnitValue) (units : List AccessUnitValue) → a.ended ≡ unit ∷ units → Made (texts ++ texts_of (unit ∷ [])) packets (record a { ended = units })
+  first_made unit units is = record {
+    gone = it.gone ++ unit ∷ [];
+    made = subst (λ (e : List AccessUnitValue). IsAssemblerOf packets (record a { ended = e })) (ap (λ (e : List AccessUnitValue). it.gone ++ e) is ∙ sym (append_assoc it.gone (unit ∷ []) units)) it.made;
+    texts_are = ap (λ (t : List (ℕ × List ℕ)). t ++ texts_of (unit ∷ [])) it.texts_are ∙ sym (texts_more it.gone (unit ∷ []));
+  }
+
+  -- one without bytes
+  bare_made : (unit : AccessUnitValue) (units : List AccessUnitValue) → a.ended ≡ unit ∷ units → bears_nothing unit.bytes ≡ true → Made texts packets (record a { ended = units })
+  bare_made unit units is e = subst (λ (t : List (ℕ × List ℕ)). Made t packets (record a { ended = units })) (ap (λ (t : List (ℕ × List ℕ)). texts ++ t) (rw e refl) ∙ append-nil texts) (first_made unit units is)
+
+  -- one with bytes
+  given_made : (unit : AccessUnitValue) (units : List AccessUnitValue) → a.ended ≡ unit ∷ units → bears_nothing unit.bytes ≡ false → Made (texts ++ (unit.timestamp, unit.bytes) ∷ []) packets (record a { ended = units })
+  given_made unit units is e = subst (λ (t : List (ℕ × List ℕ)). Made t packets (record a { ended = units })) (ap (λ (t : List (ℕ × List ℕ)). texts ++ t) (rw e refl)) (first_made unit units is)
+
 -- an account once a packet came
-record After (kept : Packets) (drops : Bool) (most : ℕ) (j : JitterState) (stray : Option Packet) : Type 0 where
+record After (packets kept : Packets) (drops : Bool) (most : ℕ) (j : JitterState) (stray : Option Packet) : Type 0 where
   account : Account
+  same : account.handed ++ account.earlier ≡ packets
   ledger : Ledger kept drops most account j stray
 
 -- each answer of a push
@@ -382,13 +506,14 @@ module _ (kept : Packets) (drops : Bool) (most : ℕ) (a : Account) (now : ℕ) 
   quiet_then : (x : Packets) → (stray ≡ None → ⊥) → drops ≡ false → x ≡ []
   quiet_then x some e = absurd (some (none_alone a.dropped stray (l.quiet e)))
 
-  jumped_after : (stray ≡ None → ⊥) → After (p ∷ kept) drops most (held_with now j stray p) None
+  jumped_after : (stray ≡ None → ⊥) → After (a.handed ++ a.earlier) (p ∷ kept) drops most (held_with now j stray p) None
   jumped_after some =
       let it = joined_moves a.handed now j stray p small l.numbered l.waits l.due in
       let new = held_with now j stray p in
       let over = joined_over a.handed now j stray p in
       record {
         account = record a { dropped = a.dropped ++ it.lost };
+        same = refl;
         ledger = record {
           exact = parts_dealt kept a.dropped (packet_alone stray) (a.handed ++ a.earlier) j.buffer.held l.exact p it.lost new.buffer.held it.moved;
           quiet = quiet_then ((a.dropped ++ it.lost) ++ []) some;
@@ -401,12 +526,13 @@ module _ (kept : Packets) (drops : Bool) (most : ℕ) (a : Account) (now : ℕ) 
         };
       }
 
-  anew_after : (stray ≡ None → ⊥) → After (p ∷ kept) drops (most + 1) (anew_of now j.config stray p) None
+  anew_after : (stray ≡ None → ⊥) → After (a.handed ++ a.earlier) (p ∷ kept) drops (most + 1) (anew_of now j.config stray p) None
   anew_after some =
       let it = anew_moves now j.config stray p small l.numbered in
       let new = anew_of now j.config stray p in
       record {
         account = ended_with a (a.dropped ++ (j.buffer.held ++ it.lost));
+        same = refl;
         ledger = record {
           exact = parts_anew kept a.dropped (packet_alone stray) (a.handed ++ a.earlier) j.buffer.held l.exact p it.lost new.buffer.held it.moved;
           quiet = quiet_then ((a.dropped ++ (j.buffer.held ++ it.lost)) ++ []) some;
@@ -420,63 +546,63 @@ module _ (kept : Packets) (drops : Bool) (most : ℕ) (a : Account) (now : ℕ) 
       }
 
 -- an account of what waits, and of the packet that waits alone
-record Whole (kept : Packets) (drops : Bool) (most : ℕ) (s : Reception) : Type 0 where
+record Whole (kept : Packets) (drops : Bool) (most : ℕ) (texts : List (ℕ × List ℕ)) (s : Reception) : Type 0 where
   account : Account
   ledger : Ledger kept drops most account s.waiting s.stray
+  made : Made texts (account.handed ++ account.earlier) s.assembler
 
 -- so by calls
 abbrev WholeOf : List ReceiverCall → Reception → Type 0
-WholeOf calls s = Whole (kept_packets calls) (list_any may_drop calls) (ended_streams calls) s
+WholeOf calls s = Whole (kept_packets calls) (list_any may_drop calls) (ended_streams calls) (texts_given calls) s
 
--- where what waits stays
-module _ (kept : Packets) (drops : Bool) (most : ℕ) where
-  stays : (s t : Reception) → t.waiting ≡ s.waiting → t.stray ≡ s.stray → Whole kept drops most s → Whole kept drops most t
-  stays s t waiting stray it = record {
-    account = it.account;
-    ledger = subst (λ (j : JitterState). Ledger kept drops most it.account j t.stray) (sym waiting)
-        (subst (Ledger kept drops most it.account s.waiting) (sym stray) it.ledger);
-  }
+-- what is given out, by its timestamp and bytes
+abbrev unit_texts : Option ReceivedAccessUnitValue → List (ℕ × List ℕ)
+unit_texts None = []
+unit_texts (Some unit) = (unit.timestamp, unit.bytes) ∷ []
 
-  due_whole : (now : ℕ) (s t : Reception) → IsDueTaken now s t → Whole kept drops most s → Whole kept drops most t
+-- each step of a receiver
+module _ (kept : Packets) (drops : Bool) (most : ℕ) (texts : List (ℕ × List ℕ)) where
+  due_whole : (now : ℕ) (s t : Reception) → IsDueTaken now s t → Whole kept drops most texts s → Whole kept drops most texts t
   due_whole now s t it whole =
       let j = s.waiting in
       let first = first_is_due (is_pressed now j) j.buffer.window j.buffer.due j.buffer.held it.packet it.due in
-      subst (Whole kept drops most) (sym it.stands) (record {
+      subst (Whole kept drops most texts) (sym it.stands) (record {
         account = with_handed it.packet whole.account;
         ledger = hands kept drops most whole.account j s.stray it.packet whole.ledger first;
+        made = taken_made texts (whole.account.handed ++ whole.account.earlier) s.assembler whole.made s.run_limit s.unit_limit (framing_at s it.packet) it.packet it.answer it.answered it.room;
       })
 
-  ended_whole : (now : ℕ) (s t : Reception) → IsEndedBefore now s t → Whole kept drops most s → Whole kept drops most t
-  ended_whole now s t it whole = subst (Whole kept drops most) (sym it.stands)
-      (elim (is_behind_missing s.assembler it.packet.0) as (λ b. Whole kept drops most (cond b (ended_behind_missing s it.packet) (ended_by_content s))) [
-        | true ↦ record { account = whole.account; ledger = whole.ledger }
-        | false ↦ record { account = whole.account; ledger = whole.ledger }
+  ended_whole : (now : ℕ) (s t : Reception) → IsEndedBefore now s t → Whole kept drops most texts s → Whole kept drops most texts t
+  ended_whole now s t it whole = subst (Whole kept drops most texts) (sym it.stands)
+      (elim (is_behind_missing s.assembler it.packet.0) as (λ b. Whole kept drops most texts (cond b (ended_behind_missing s it.packet) (ended_by_content s))) [
+        | true ↦ record { account = whole.account; ledger = whole.ledger; made = finishing_made texts (whole.account.handed ++ whole.account.earlier) s.assembler whole.made }
+        | false ↦ record { account = whole.account; ledger = whole.ledger; made = ending_made texts (whole.account.handed ++ whole.account.earlier) s.assembler whole.made }
       ])
 
-  bare_whole_of : (units : List AccessUnitValue) (s : Reception) → Whole kept drops most s → Whole kept drops most (without_bare_of s units)
-  bare_whole_of [] s whole = whole
-  bare_whole_of (unit ∷ units) s whole = elim (bears_nothing unit.bytes) as (λ b. Whole kept drops most (cond b (without_bare_of (bare_passed s unit units) units) s)) [
-    | true ↦ bare_whole_of units (bare_passed s unit units) (record { account = whole.account; ledger = whole.ledger })
-    | false ↦ whole
-  ]
+  bare_whole_of : (units : List AccessUnitValue) (s : Reception) → s.assembler.ended ≡ units → Whole kept drops most texts s → Whole kept drops most texts (without_bare_of s units)
+  bare_whole_of [] s is whole = whole
+  bare_whole_of (unit ∷ units) s is whole = elim (bears_nothing unit.bytes) as (λ b. bears_nothing unit.bytes ≡ b → Whole kept drops most texts (cond b (without_bare_of (bare_passed s unit units) units) s)) [
+    | true ↦ λ e. bare_whole_of units (bare_passed s unit units) refl (record { account = whole.account; ledger = whole.ledger; made = bare_made texts (whole.account.handed ++ whole.account.earlier) s.assembler whole.made unit units is e })
+    | false ↦ λ e. whole
+  ] refl
 
-  bare_whole : (s : Reception) → Whole kept drops most s → Whole kept drops most (without_bare s)
-  bare_whole s whole = bare_whole_of s.assembler.ended s whole
+  bare_whole : (s : Reception) → Whole kept drops most texts s → Whole kept drops most texts (without_bare s)
+  bare_whole s whole = bare_whole_of s.assembler.ended s refl whole
 
-  drained_whole : (now : ℕ) (s t : Reception) → IsDrained now s t → Whole kept drops most s → Whole kept drops most t
+  drained_whole : (now : ℕ) (s t : Reception) → IsDrained now s t → Whole kept drops most texts s → Whole kept drops most texts t
   drained_whole now s t none whole = whole
   drained_whole now s t (bare before) whole = bare_whole _ (drained_whole now s _ before whole)
   drained_whole now s t (more before empty taken) whole = due_whole now _ t taken (drained_whole now s _ before whole)
   drained_whole now s t (behind before empty ended) whole = ended_whole now _ t ended (drained_whole now s _ before whole)
 
-  anew_whole : (s : Reception) → Whole kept drops most s → Whole kept drops most (ended_if_anew s)
-  anew_whole s whole = elim (has_no_unit s.assembler.ended && s.is_anew) as (λ b. (has_no_unit s.assembler.ended && s.is_anew) ≡ b → Whole kept drops most (ended_if_anew s)) [
-    | true ↦ λ e. rw e (record { account = whole.account; ledger = whole.ledger })
+  anew_whole : (s : Reception) → Whole kept drops most texts s → Whole kept drops most texts (ended_if_anew s)
+  anew_whole s whole = elim (has_no_unit s.assembler.ended && s.is_anew) as (λ b. (has_no_unit s.assembler.ended && s.is_anew) ≡ b → Whole kept drops most texts (ended_if_anew s)) [
+    | true ↦ λ e. rw e (record { account = whole.account; ledger = whole.ledger; made = finishing_made texts (whole.account.handed ++ whole.account.earlier) s.assembler whole.made })
     | false ↦ λ e. rw e whole
   ] refl
 
   -- at the end none waits but the packet alone, which is dropped
-  finish_whole : (s : Reception) → s.waiting.buffer.held ≡ [] → s.waiting.is_over ≡ true → Whole kept drops most s → Whole kept drops most (after_finish s)
+  finish_whole : (s : Reception) → s.waiting.buffer.held ≡ [] → s.waiting.is_over ≡ true → Whole kept drops most texts s → Whole kept drops most texts (after_finish s)
   finish_whole s empty over whole =
       let a = whole.account in
       let l = whole.ledger in
@@ -484,6 +610,7 @@ module _ (kept : Packets) (drops : Bool) (most : ℕ) where
       let same : a.dropped ++ alone ≡ (a.dropped ++ alone) ++ s.waiting.buffer.held = sym (append-nil (a.dropped ++ alone)) ∙ ap (λ (w : Packets). (a.dropped ++ alone) ++ w) (sym empty) in
       record {
         account = ended_with a (a.dropped ++ alone);
+        made = finishing_made texts (a.handed ++ a.earlier) s.assembler whole.made;
         ledger = record {
           exact = subst (λ (x : Packets). IsPermutation kept ((x ++ []) ++ ((a.handed ++ a.earlier) ++ []))) (sym same)
               (parts_dropped kept a.dropped alone (a.handed ++ a.earlier) s.waiting.buffer.held l.exact);
@@ -508,45 +635,57 @@ module _ (kept : Packets) (drops : Bool) (most : ℕ) where
   no_unit_is [] e = refl
   no_unit_is (unit ∷ units) e = absurd (let bad = e in cc)
 
-  over_whole : (now : ℕ) (s : Reception) → NoneIsDueUnlessEnded now s → Whole kept drops most s → Whole kept drops most (ended_if_over s)
+  over_whole : (now : ℕ) (s : Reception) → NoneIsDueUnlessEnded now s → Whole kept drops most texts s → Whole kept drops most texts (ended_if_over s)
   over_whole now s until whole =
-      elim (has_no_unit s.assembler.ended) as (λ n. has_no_unit s.assembler.ended ≡ n → Whole kept drops most (cond (n && s.waiting.is_over) (after_finish s) s)) [
-        | true ↦ λ n. elim s.waiting.is_over as (λ o. s.waiting.is_over ≡ o → Whole kept drops most (cond o (after_finish s) s)) [
+      elim (has_no_unit s.assembler.ended) as (λ n. has_no_unit s.assembler.ended ≡ n → Whole kept drops most texts (cond (n && s.waiting.is_over) (after_finish s) s)) [
+        | true ↦ λ n. elim s.waiting.is_over as (λ o. s.waiting.is_over ≡ o → Whole kept drops most texts (cond o (after_finish s) s)) [
           | true ↦ λ o. finish_whole s (none_waits now s.waiting o (until (no_unit_is s.assembler.ended n))) o whole
           | false ↦ λ o. whole
         ] refl
         | false ↦ λ n. whole
       ] refl
 
-  given_whole : (s : Reception) → Whole kept drops most s → Whole kept drops most (without_given s)
-  given_whole s whole = by s.assembler.ended
+  -- the first that ended is given out, where it has bytes
+  given_whole : (s : Reception) → has_bare s.assembler.ended ≡ false → Whole kept drops most texts s → Whole kept drops most (texts ++ unit_texts (unit_given s)) (without_given s)
+  given_whole s some whole = by s.assembler.ended refl some
     where
-      by : (ended : List AccessUnitValue) → Whole kept drops most (without_given_of s ended)
-      by [] = whole
-      by (unit ∷ units) = record { account = whole.account; ledger = whole.ledger }
+      by : (ended : List AccessUnitValue) → s.assembler.ended ≡ ended → has_bare ended ≡ false → Whole kept drops most (texts ++ unit_texts (unit_given_of s ended)) (without_given_of s ended)
+      by [] is e = subst (λ (t : List (ℕ × List ℕ)). Whole kept drops most t s) (sym (append-nil texts)) whole
+      by (unit ∷ units) is e = record { account = whole.account; ledger = whole.ledger; made = given_made texts (whole.account.handed ++ whole.account.earlier) s.assembler whole.made unit units is e }
 
-  begun_whole : (s : Reception) → Whole kept drops most s → Whole kept drops most (ended_if_anew (without_bare s))
+  -- those without bytes were passed over
+  none_bare_of : (units : List AccessUnitValue) (s : Reception) → s.assembler.ended ≡ units → has_bare (without_bare_of s units).assembler.ended ≡ false
+  none_bare_of [] s is = ap has_bare is
+  none_bare_of (unit ∷ units) s is = elim (bears_nothing unit.bytes) as (λ b. bears_nothing unit.bytes ≡ b → has_bare (cond b (without_bare_of (bare_passed s unit units) units) s).assembler.ended ≡ false) [
+    | true ↦ λ e. none_bare_of units (bare_passed s unit units) refl
+    | false ↦ λ e. ap has_bare is ∙ e
+  ] refl
+
+  begun_whole : (s : Reception) → Whole kept drops most texts s → Whole kept drops most texts (ended_if_anew (without_bare s))
   begun_whole s whole = anew_whole (without_bare s) (bare_whole s whole)
 
-  next_whole : (now : ℕ) (s new : Reception) (unit : Option ReceivedAccessUnitValue) → IsNext now s new unit → Whole kept drops most s → Whole kept drops most new
+  next_whole : (now : ℕ) (s new : Reception) (unit : Option ReceivedAccessUnitValue) → IsNext now s new unit → Whole kept drops most texts s → Whole kept drops most (texts ++ unit_texts unit) new
   next_whole now s new unit it whole =
-      subst (Whole kept drops most) (sym it.stands)
-      (given_whole (without_bare (ended_if_over it.drained))
-      (bare_whole (ended_if_over it.drained)
+      let last = ended_if_over it.drained in
+      subst (λ (u : Option ReceivedAccessUnitValue). Whole kept drops most (texts ++ unit_texts u) new) (sym it.unit_is)
+      (subst (Whole kept drops most (texts ++ unit_texts (unit_given (without_bare last)))) (sym it.stands)
+      (given_whole (without_bare last) (none_bare_of last.assembler.ended last refl)
+      (bare_whole last
       (over_whole now it.drained it.until
-      (drained_whole now (ended_if_anew (without_bare s)) it.drained it.taken (begun_whole s whole)))))
+      (drained_whole now (ended_if_anew (without_bare s)) it.drained it.taken (begun_whole s whole))))))
 
-  lack_whole : (now : ℕ) (s new : Reception) → IsDrainedInPart now s new → Whole kept drops most s → Whole kept drops most new
-  lack_whole now s new (inl same) whole = subst (Whole kept drops most) (sym same) (bare_whole s whole)
+  lack_whole : (now : ℕ) (s new : Reception) → IsDrainedInPart now s new → Whole kept drops most texts s → Whole kept drops most texts new
+  lack_whole now s new (inl same) whole = subst (Whole kept drops most texts) (sym same) (bare_whole s whole)
   lack_whole now s new (inr taken) whole = drained_whole now (ended_if_anew (without_bare s)) new taken (begun_whole s whole)
 
-  restart_whole : (s : Reception) → Whole kept drops most s → Whole kept true (most + 1) (restarted s)
+  restart_whole : (s : Reception) → Whole kept drops most texts s → Whole kept true (most + 1) texts (restarted s)
   restart_whole s whole =
       let a = whole.account in
       let l = whole.ledger in
       let alone = packet_alone s.stray in
       record {
         account = ended_with a ((a.dropped ++ alone) ++ s.waiting.buffer.held);
+        made = restart_made texts (a.handed ++ a.earlier) s.assembler whole.made;
         ledger = record {
           exact = parts_dropped kept a.dropped alone (a.handed ++ a.earlier) s.waiting.buffer.held l.exact;
           quiet = λ e. absurd (let bad = e in cc);
@@ -559,11 +698,12 @@ module _ (kept : Packets) (drops : Bool) (most : ℕ) where
         };
       }
 
-  end_whole : (s : Reception) → Whole kept drops most s → Whole kept drops (most + 1) (ended_reception s)
+  end_whole : (s : Reception) → Whole kept drops most texts s → Whole kept drops (most + 1) texts (ended_reception s)
   end_whole s whole =
       let l = whole.ledger in
       record {
         account = whole.account;
+        made = whole.made;
         ledger = record {
           exact = l.exact;
           quiet = l.quiet;
@@ -576,11 +716,12 @@ module _ (kept : Packets) (drops : Bool) (most : ℕ) where
         };
       }
 
-  settings_whole : (config : AccessUnitConfig) (s : Reception) → Whole kept drops most s → Whole kept drops most (with_settings config s)
+  settings_whole : (config : AccessUnitConfig) (s : Reception) → Whole kept drops most texts s → Whole kept drops most texts (with_settings config s)
   settings_whole config s whole =
       let l = whole.ledger in
       record {
         account = whole.account;
+        made = whole.made;
         ledger = record { exact = l.exact; quiet = l.quiet; turn = l.turn; before = l.before; few = l.few; due = l.due; waits = l.waits; numbered = l.numbered };
       }
 
@@ -608,10 +749,10 @@ module _ (kept : Packets) (drops : Bool) (most : ℕ) where
       }
       by (Some d) due waits = record { exact = l.exact; quiet = l.quiet; turn = l.turn; before = l.before; few = l.few; due = due; waits = waits; numbered = l.numbered }
 
-  begin_whole : (number : ℕ) (s : Reception) → number < 65536 → Whole kept drops most s → Whole kept drops most (begun_reception number s)
+  begin_whole : (number : ℕ) (s : Reception) → number < 65536 → Whole kept drops most texts s → Whole kept drops most texts (begun_reception number s)
   begin_whole number s small whole =
-      elim (may_tell_first s.waiting) as (λ b. may_tell_first s.waiting ≡ b → Whole kept drops most (begun_reception number s)) [
-        | true ↦ λ e. rw e (record { account = whole.account; ledger = told_ledger whole.account number s.waiting s.stray small whole.ledger })
+      elim (may_tell_first s.waiting) as (λ b. may_tell_first s.waiting ≡ b → Whole kept drops most texts (begun_reception number s)) [
+        | true ↦ λ e. rw e (record { account = whole.account; ledger = told_ledger whole.account number s.waiting s.stray small whole.ledger; made = told_made texts (whole.account.handed ++ whole.account.earlier) s.assembler whole.made number })
         | false ↦ λ e. rw e whole
       ] refl
 
@@ -672,44 +813,49 @@ one_alone s p answer either is none_is = by (way_of s p.0) is
 aside_whole : (calls : List ReceiverCall) (now : ℕ) (s : Reception) (p : Packet) (answer : Pushed) → p.0 < 65536 → answer ≡ reception_answer s p → WholeOf calls s → WholeOf (PushCall now p answer ∷ calls) (after_reception now s p answer)
 aside_whole calls now s p pushes.Held small is whole = record {
   account = whole.account;
+  made = whole.made;
   ledger = held_after (kept_packets calls) (list_any may_drop calls) (ended_streams calls) whole.account now s.waiting s.stray p small whole.ledger (told_held s p is);
 }
-aside_whole calls now s p (pushes.Late n) small is whole = record { account = whole.account; ledger = whole.ledger }
-aside_whole calls now s p pushes.Twice small is whole = record { account = whole.account; ledger = whole.ledger }
-aside_whole calls now s p pushes.Full small is whole = record { account = whole.account; ledger = whole.ledger }
+aside_whole calls now s p (pushes.Late n) small is whole = record { account = whole.account; ledger = whole.ledger; made = whole.made }
+aside_whole calls now s p pushes.Twice small is whole = record { account = whole.account; ledger = whole.ledger; made = whole.made }
+aside_whole calls now s p pushes.Full small is whole = record { account = whole.account; ledger = whole.ledger; made = whole.made }
 aside_whole calls now s p pushes.Stray small is whole = record {
   account = record whole.account { dropped = whole.account.dropped ++ packet_alone s.stray };
+  made = whole.made;
   ledger = stray_after (kept_packets calls) (list_any may_drop calls) (ended_streams calls) whole.account now s.waiting s.stray p small whole.ledger;
 }
 aside_whole calls now s p pushes.Jumped small is whole =
     let it = jumped_after (kept_packets calls) (list_any may_drop calls) (ended_streams calls) whole.account now s.waiting s.stray p small whole.ledger (one_alone s p pushes.Jumped (inl refl) is) in
-    record { account = it.account; ledger = it.ledger }
+    record { account = it.account; ledger = it.ledger; made = subst (λ (packets : Packets). Made (texts_given calls) packets s.assembler) (sym it.same) whole.made }
 aside_whole calls now s p pushes.Anew small is whole =
     let it = anew_after (kept_packets calls) (list_any may_drop calls) (ended_streams calls) whole.account now s.waiting s.stray p small whole.ledger (one_alone s p pushes.Anew (inr refl) is) in
-    record { account = it.account; ledger = it.ledger }
+    record { account = it.account; ledger = it.ledger; made = subst (λ (packets : Packets). Made (texts_given calls) packets s.assembler) (sym it.same) whole.made }
 
 push_whole : (calls : List ReceiverCall) (now : ℕ) (s new : Reception) (p : Packet) (answer : Pushed) → p.0 < 65536 → answer ≡ reception_answer s p → IsPushed now s p answer new → WholeOf calls s → WholeOf (PushCall now p answer ∷ calls) new
 push_whole calls now s new p answer small is it whole =
     let calls_then = PushCall now p answer ∷ calls in
     let aside = aside_whole calls now s p answer small is whole in
     elim (is_taken_at_once s p) as (λ b. MatchBool b (IsDueTaken now (after_reception now s p answer) new) (new ≡ after_reception now s p answer) → WholeOf calls_then new) [
-      | true ↦ λ taken. due_whole (kept_packets calls_then) (list_any may_drop calls_then) (ended_streams calls_then) now (after_reception now s p answer) new taken aside
+      | true ↦ λ taken. due_whole (kept_packets calls_then) (list_any may_drop calls_then) (ended_streams calls_then) (texts_given calls_then) now (after_reception now s p answer) new taken aside
       | false ↦ λ stands. subst (WholeOf calls_then) (sym stands) aside
     ] it
 
 call_whole : (call : ReceiverCall) (calls : List ReceiverCall) (s new : Reception) → IsCall call s new → WholeOf calls s → WholeOf (call ∷ calls) new
 call_whole (PushCall now p answer) calls s new it whole = push_whole calls now s new p answer it.0 it.1 it.2 whole
-call_whole (BackCall p reason) calls s new it whole = subst (WholeOf calls) (sym it.1) (record { account = whole.account; ledger = whole.ledger })
-call_whole (NextCall now unit) calls s new it whole = next_whole (kept_packets calls) (list_any may_drop calls) (ended_streams calls) now s new unit it whole
-call_whole (LackCall now) calls s new it whole = lack_whole (kept_packets calls) (list_any may_drop calls) (ended_streams calls) now s new it whole
-call_whole FinishCall calls s new it whole = subst (WholeOf (FinishCall ∷ calls)) (sym it) (end_whole (kept_packets calls) (list_any may_drop calls) (ended_streams calls) s whole)
-call_whole RestartCall calls s new it whole = subst (WholeOf (RestartCall ∷ calls)) (sym it) (restart_whole (kept_packets calls) (list_any may_drop calls) (ended_streams calls) s whole)
-call_whole (SettingsCall config) calls s new it whole = subst (WholeOf calls) (sym it) (settings_whole (kept_packets calls) (list_any may_drop calls) (ended_streams calls) config s whole)
-call_whole (BeginCall number) calls s new it whole = subst (WholeOf calls) (sym it.1) (begin_whole (kept_packets calls) (list_any may_drop calls) (ended_streams calls) number s it.0 whole)
+call_whole (BackCall p reason) calls s new it whole = subst (WholeOf calls) (sym it.1) (record { account = whole.account; ledger = whole.ledger; made = whole.made })
+call_whole (NextCall now None) calls s new it whole = subst (λ (t : List (ℕ × List ℕ)). Whole (kept_packets calls) (list_any may_drop calls) (ended_streams calls) t new) (append-nil (texts_given calls))
+    (next_whole (kept_packets calls) (list_any may_drop calls) (ended_streams calls) (texts_given calls) now s new None it whole)
+call_whole (NextCall now (Some unit)) calls s new it whole = next_whole (kept_packets calls) (list_any may_drop calls) (ended_streams calls) (texts_given calls) now s new (Some unit) it whole
+call_whole (LackCall now) calls s new it whole = lack_whole (kept_packets calls) (list_any may_drop calls) (ended_streams calls) (texts_given calls) now s new it whole
+call_whole FinishCall calls s new it whole = subst (WholeOf (FinishCall ∷ calls)) (sym it) (end_whole (kept_packets calls) (list_any may_drop calls) (ended_streams calls) (texts_given calls) s whole)
+call_whole RestartCall calls s new it whole = subst (WholeOf (RestartCall ∷ calls)) (sym it) (restart_whole (kept_packets calls) (list_any may_drop calls) (ended_streams calls) (texts_given calls) s whole)
+call_whole (SettingsCall config) calls s new it whole = subst (WholeOf calls) (sym it) (settings_whole (kept_packets calls) (list_any may_drop calls) (ended_streams calls) (texts_given calls) config s whole)
+call_whole (BeginCall number) calls s new it whole = subst (WholeOf calls) (sym it.1) (begin_whole (kept_packets calls) (list_any may_drop calls) (ended_streams calls) (texts_given calls) number s it.0 whole)
 
 calls_whole : (config : AccessUnitConfig) (state : DepacketizerState) (calls : List ReceiverCall) (s : Reception) → AreReceiverCalls (fresh_reception config state) calls s → WholeOf calls s
 calls_whole config state calls s no_call = record {
   account = no_account;
+  made = record { gone = []; made = new_assembler state; texts_are = refl };
   ledger = record { exact = IsPermutation-refl []; quiet = λ e. refl; turn = tt; before = no_stream; few = omega arith; due = tt; waits = refl; numbered = tt };
 }
 calls_whole config state calls s (one_call {call = call} {before = before} {t = t} others it) = call_whole call before t s it (calls_whole config state before t others)
@@ -720,6 +866,7 @@ calls_accounted config state calls s are =
     let l = whole.ledger in
     record {
       account = whole.account;
+      given = record { gone = whole.made.gone; made = whole.made.made; texts = whole.made.texts_are };
       each = record { exact = l.exact; none_dropped = l.quiet };
       order = record { turn = l.turn; before = l.before; few = let few = l.few in omega (arith, few); due = l.due; waits = l.waits };
     }

@@ -1,17 +1,24 @@
 -- What becomes of the packets that are given to a receiver, by the whole list of calls (RFC 3550, 5.1,
 -- A.1; ours).
-use Rattle.std.specs.Prelude.{◌≡◌, ℕ, ◌+◌, ◌≤◌, ◌<◌, ◌^◌, Bool, true, false, if◌then◌else◌, List, [], ◌∷◌, ◌++◌, Option, Some, None, IsPermutation}
+use Rattle.std.specs.Prelude.{◌≡◌, ℕ, ◌+◌, ◌≤◌, ◌<◌, ◌^◌, Bool, true, false, if◌then◌else◌, List, [], ◌∷◌, ◌++◌, Option, Some, None, Result, Err, IsPermutation}
 use Rattle.std.specs.List.{list_any}
+use Rattle.h26x_core.specs.declared.error.PacketError.{PacketError}
+use Rattle.h26x_core.specs.declared.error.PacketError.TheVariants.{OutOfMemory}
+use Rattle.h26x_model.specs.Receive.DepacketizerState.{DepacketizerState}
+use Rattle.h26x_receiver.specs.declared.received.Received.{Received}
+use Rattle.h26x_assembler.specs.AccessUnit.{AccessUnitValue, Assembly, none_open, open_assembly, after_ending, after_finishing}
 use Rattle.h26x_core.specs.Sequence.{next_sequence_number, distance_ahead}
 use Rattle.h26x_reorder.specs.Rtp.{RtpBody}
 use Rattle.h26x_reorder.specs.ReorderBuffer.{IsHeldInOrder}
 use Rattle.h26x_access_units.specs.declared.config.AccessUnitConfig.{AccessUnitConfig}
+use Rattle.h26x_access_units.specs.declared.framing.Framing.{Framing}
 use Rattle.h26x_access_units.specs.declared.pushed.Pushed.{Pushed}
 use Rattle.h26x_access_units.specs.declared.pushed.Pushed.TheVariants as pushes
 use Rattle.h26x_access_units.specs.declared.pushed.NotPushedReason.{NotPushedReason}
+use Rattle.h26x_access_units.specs.Numbers.{bears_nothing}
 use Rattle.h26x_access_units.specs.Pushed.{is_kept, IsNotPushedReason}
 use Rattle.h26x_access_units.specs.ReceivedAccessUnit.{ReceivedAccessUnitValue}
-use Rattle.h26x_access_units.specs.Reception.{Reception, reception_answer, refused_reception, ended_reception, restarted, with_settings, begun_reception, IsPushed, IsNext, IsDrainedInPart}
+use Rattle.h26x_access_units.specs.Reception.{Reception, IsAnswerTo, begun_for, believed, assembly_after, marker_forgotten, reception_answer, refused_reception, ended_reception, restarted, with_settings, begun_reception, IsPushed, IsNext, IsDrainedInPart}
 
 -- a call of a receiver, with its tick and what it answered: `push`; `push_held` whose packet came back;
 -- `next`; `next` for which memory lacked; `finish`; `restart`; `set_config`; `begin_at`
@@ -123,8 +130,53 @@ pub record AreHandedInOrder (calls : List ReceiverCall) (s : Reception) (a : Acc
   pub due : IsDueBehind s.waiting.buffer.due a.handed
   pub waits : IsHeldInOrder s.waiting.buffer.due s.waiting.buffer.held
 
+-- What an assembler of access units is that took these packets, the last one first: it is new; a packet
+-- was answered so, with its marker where that is believed; the access unit that is open ended by
+-- itself, or with the stream; the number of the first packet was told; or all was dropped that had not
+-- been given out.
+pub data IsAssemblerOf : List (ℕ × RtpBody) → Assembly → Type 0 where
+  new_assembler : (state : DepacketizerState) →
+      IsAssemblerOf [] (open_assembly state None none_open [])
+  one_taken : (most limit : ℕ) (framing : Framing) (p : ℕ × RtpBody)
+      (answer : Result Received PacketError) (before : List (ℕ × RtpBody)) (a : Assembly) →
+      IsAssemblerOf before a → IsAnswerTo most (begun_for a p) (believed framing p) answer →
+      (answer ≡ Err OutOfMemory → ⊥) → IsAssemblerOf (p ∷ before)
+      (marker_forgotten (assembly_after most limit (begun_for a p) (believed framing p) answer))
+  unit_ended : (before : List (ℕ × RtpBody)) (a : Assembly) → IsAssemblerOf before a →
+      IsAssemblerOf before (after_ending a)
+  stream_ended : (before : List (ℕ × RtpBody)) (a : Assembly) → IsAssemblerOf before a →
+      IsAssemblerOf before (after_finishing a)
+  number_told : (number : ℕ) (before : List (ℕ × RtpBody)) (a : Assembly) →
+      IsAssemblerOf before a → IsAssemblerOf before (record a { expected = Some number })
+  rest_dropped : (given rest : List AccessUnitValue) (before : List (ℕ × RtpBody))
+      (a : Assembly) → IsAssemblerOf before a → a.ended ≡ given ++ rest →
+      IsAssemblerOf before (open_assembly a.state None none_open given)
+
+-- the access units that `next` gave out, by their timestamps and bytes, in that order
+abbrev pub texts_given : List ReceiverCall → List (ℕ × List ℕ)
+texts_given [] = []
+texts_given (NextCall now (Some unit) ∷ before) =
+    texts_given before ++ (unit.timestamp, unit.bytes) ∷ []
+texts_given (call ∷ before) = texts_given before
+
+-- those that have bytes
+abbrev pub texts_of : List AccessUnitValue → List (ℕ × List ℕ)
+texts_of [] = []
+texts_of (unit ∷ units) = if bears_nothing unit.bytes then texts_of units
+    else (unit.timestamp, unit.bytes) ∷ texts_of units
+
+-- Of the access units that an assembler brings of the packets that were handed on to it, these are
+-- gone, and those that ended since are left; and what `next` gave out are those gone that have bytes,
+-- each once, in that order.
+pub record AreGivenAssembled (calls : List ReceiverCall) (s : Reception) (a : Account) : Type 0 where
+  pub gone : List AccessUnitValue
+  pub made : IsAssemblerOf (a.handed ++ a.earlier)
+      (record s.assembler { ended = gone ++ s.assembler.ended })
+  pub texts : texts_given calls ≡ texts_of gone
+
 -- all of this
 pub record IsAccounted (calls : List ReceiverCall) (s : Reception) : Type 0 where
   pub account : Account
   pub each : IsEachAccounted calls s account
   pub order : AreHandedInOrder calls s account
+  pub given : AreGivenAssembled calls s account

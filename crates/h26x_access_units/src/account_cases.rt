@@ -5,8 +5,10 @@ ghost use Rattle.std.specs.List.{list_any};
 ghost use Rattle.h26x_model.specs.Receive.DepacketizerState.{DepacketizerState};
 ghost use Rattle.h26x_reorder.specs.Rtp.{RtpBody, rtp_body};
 ghost use Rattle.h26x_access_units.specs.declared.config.AccessUnitConfig.{AccessUnitConfig};
-ghost use Rattle.h26x_access_units.specs.Reception.{fresh_reception, after_reception, ended_reception, restarted};
-ghost use Rattle.h26x_access_units.specs.Account.{PushCall, BackCall, NextCall, FinishCall, RestartCall, BeginCall, AreReceiverCalls, kept_packets, may_drop, ended_streams, packet_alone, AreInTurnBack, AreStreams, IsDueBehind, IsAccounted};
+ghost use Rattle.h26x_assembler.specs.AccessUnit.{empty_unit, none_open, open_assembly, after_unit_skip};
+ghost use Rattle.h26x_access_units.specs.ReceivedAccessUnit.{ReceivedAccessUnitValue};
+ghost use Rattle.h26x_access_units.specs.Reception.{marker_forgotten, fresh_reception, after_reception, ended_reception, restarted};
+ghost use Rattle.h26x_access_units.specs.Account.{PushCall, BackCall, NextCall, FinishCall, RestartCall, BeginCall, AreReceiverCalls, IsAssemblerOf, texts_given, texts_of, kept_packets, may_drop, ended_streams, packet_alone, AreInTurnBack, AreStreams, IsDueBehind, IsAccounted};
 
 use crate::pushed::{NotPushedReason, Pushed};
 
@@ -59,6 +61,24 @@ pub fn packets_in_turn()
 pub fn streams_one_after_the_other()
     ensures two { let b = rtp_body 0 false [] in AreStreams 2 ((5, b) ∷ (6, b) ∷ (5, b) ∷ []) }
     ensures none { AreStreams 0 [] }
+{}
+
+/// Two access units are given out one after the other; one without bytes is none of them.
+pub fn texts_that_are_given()
+    ensures order { (first second : ReceivedAccessUnitValue) →
+        texts_given (NextCall 2 (Some second) ∷ NextCall 1 None ∷ NextCall 0 (Some first) ∷ [])
+        ≡ (first.timestamp, first.bytes) ∷ (second.timestamp, second.bytes) ∷ [] }
+    ensures none { texts_given (FinishCall ∷ []) ≡ [] }
+    ensures bare { texts_of (empty_unit 5 ∷ record (empty_unit 7) { bytes = 1 ∷ [] } ∷ []) ≡ (7, 1 ∷ []) ∷ [] }
+{}
+
+/// A number that bears nothing is skipped by a new assembler, and another one is told to it.
+pub fn assemblers_of_packets()
+    ensures skipped { (state : DepacketizerState) →
+        IsAssemblerOf ((7, rtp_body 0 false []) ∷ [])
+        (marker_forgotten (after_unit_skip (open_assembly state None none_open []) 7)) }
+    ensures told { (state : DepacketizerState) → IsAssemblerOf []
+        (record (open_assembly state None none_open []) { expected = Some 7 }) }
 {}
 
 /// A packet is pushed to a receiver that is new, it is ended and begun again, and settings are given:
