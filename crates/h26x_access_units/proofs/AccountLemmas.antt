@@ -2,34 +2,38 @@
 use Rattle.std.proofs.Common.{◌≡◌, ◌∙◌, ap, sym, subst, refl, ℕ, ◌+◌, ◌≤◌, ◌<◌, Bool, true, false, cond, List, [], ◌∷◌, ◌++◌, length, Option, Some, None, append_assoc, arith, inl, inr, Result, Ok, Err}
 use Rattle.std.specs.Prelude.{◌==◌, ◌||◌, ◌&&◌, nat_lt, slice_get, MatchBool, IsPermutation, ◌⊎◌, not, if◌then◌else◌}
 use Rattle.std.specs.List.{list_any}
-use Rattle.std.proofs.lemmas.List.{append-nil}
-use Rattle.std.proofs.lemmas.List.Sorted.{IsPermutation-refl, IsPermutation-sym, IsPermutation-cons, IsPermutation-trans, IsPermutation-to_front, IsPermutation-append_left, IsPermutation-append_right, IsPermutation-append_comm, IsPermutation-middle}
+use Rattle.std.proofs.lemmas.List.{append-nil, length-append}
+use Rattle.std.proofs.lemmas.List.Sorted.{IsPermutation-refl, IsPermutation-sym, IsPermutation-cons, IsPermutation-trans, IsPermutation-to_front, IsPermutation-append_left, IsPermutation-append_right, IsPermutation-append_comm, IsPermutation-middle, length_permutation}
 use Rattle.std.proofs.lemmas.Bool.Decides.{nat_tests}
-use Rattle.h26x_core.specs.Sequence.{next_sequence_number, distance_ahead, is_late}
+use Rattle.h26x_core.specs.Sequence.{next_sequence_number, distance_ahead, is_late, missing_count}
 use Rattle.h26x_model.specs.Receive.DepacketizerState.{DepacketizerState}
 use Rattle.h26x_reorder.specs.Rtp.{RtpBody}
 use Rattle.h26x_reorder.specs.ReorderBuffer.{BufferState, buffer_state, due_at, put_packet, is_number_held, push_answer, after_push, may_go, last_number, first_ready, without_first, are_beyond, begun_at, IsHeldInOrder, AreHeldInOrder}
 use Rattle.h26x_reorder.specs.declared.pushed.Pushed as buffers
 use Rattle.h26x_reorder.specs.declared.pushed.Pushed.TheVariants as buffered
 use Rattle.h26x_reorder.proofs.BufferLemmas.{order_at, put_in_order, put_held, rest_in_order}
-use Rattle.h26x_assembler.specs.AccessUnit.{AccessUnitValue, Assembly, open_assembly, none_open, given_out, ended_by, after_taken_rtp, with_unit_within, after_rtp, behind_missing, after_unit_skip, after_pass_over, after_ending, after_finishing, is_run_closed, whole_if, unit_with, taken_by}
+use Rattle.h26x_assembler.specs.AccessUnit.{AccessUnitValue, Assembly, open_assembly, none_open, given_out, ended_by, after_taken_rtp, with_unit_within, after_rtp, behind_missing, after_unit_skip, after_pass_over, after_ending, after_finishing, is_run_closed, whole_if, unit_with, taken_by, is_text_given_up}
 use Rattle.h26x_access_units.specs.declared.config.AccessUnitConfig.{AccessUnitConfig}
 use Rattle.h26x_access_units.specs.declared.pushed.Pushed.{Pushed}
 use Rattle.h26x_access_units.specs.declared.pushed.Pushed.TheVariants as pushes
 use Rattle.h26x_access_units.specs.declared.way.Way.{Way}
 use Rattle.h26x_access_units.specs.declared.way.Way.TheVariants as ways
-use Rattle.h26x_access_units.specs.Numbers.{bears_nothing}
+use Rattle.h26x_access_units.specs.Numbers.{bears_nothing, first_ended}
 use Rattle.h26x_access_units.specs.Pushed.{as_pushed}
 use Rattle.h26x_access_units.specs.JitterBuffer.{JitterState, fresh_jitter, may_tell_first, with_held_limit, is_pressed, is_full, jitter_answer, after_jitter, with_packet, with_two, has_room_for, due_packet, without_due}
-use Rattle.h26x_access_units.specs.ReceivedAccessUnit.{ReceivedAccessUnitValue}
-use Rattle.h26x_access_units.specs.Reception.{Reception, fresh_reception, begun_reception, restarted, is_behind_stray, is_near_stray, answer_on, way_of, reception_answer, pushed_to, anew_of, held_with, after_reception, is_taken_at_once, is_behind_missing, IsDueTaken, IsEndedBefore, ended_behind_missing, ended_by_content, IsPushed, NoneIsDueUnlessEnded, IsDrained, none, bare, more, behind, IsDrainedInPart, bare_passed, without_bare, without_bare_of, ended_if_anew, ended_if_over, ended_reception, after_finish, has_no_unit, without_given, without_given_of, with_settings, IsNext, begun_for, believed, framing_at, ends_with, after_no_unit, is_no_unit, assembly_after, marker_forgotten, unit_given, unit_given_of, has_bare, IsAnswerTo}
+use Rattle.h26x_access_units.specs.ReceivedAccessUnit.{ReceivedAccessUnitValue, whole_with}
+use Rattle.h26x_access_units.specs.Reception.{Reception, fresh_reception, begun_reception, restarted, is_behind_stray, is_near_stray, answer_on, way_of, reception_answer, pushed_to, anew_of, held_with, after_reception, is_taken_at_once, is_behind_missing, IsDueTaken, IsEndedBefore, ended_behind_missing, ended_by_content, IsPushed, NoneIsDueUnlessEnded, IsDrained, none, bare, more, behind, IsDrainedInPart, bare_passed, without_bare, without_bare_of, ended_if_anew, ended_if_over, ended_reception, after_finish, has_no_unit, without_given, without_given_of, with_settings, IsNext, begun_for, believed, framing_at, ends_with, after_no_unit, is_no_unit, assembly_after, marker_forgotten, unit_given, unit_given_of, has_bare, IsAnswerTo, is_one_taken, begins_still, counts_answered, believed_packet, after_due}
 use Rattle.h26x_core.specs.declared.error.PacketError.{PacketError}
 use Rattle.h26x_receiver.specs.declared.received.Received.{Received}
 use Rattle.h26x_receiver.specs.declared.received.Received.TheVariants as received
-use Rattle.h26x_receiver.specs.Sequenced.{is_run_kept, expected_after_skip, after_taken_packet}
+use Rattle.h26x_receiver.specs.Sequenced.{is_run_kept, expected_after_skip, after_taken_packet, skip_answer}
 use Rattle.h26x_core.specs.declared.error.PacketError.TheVariants.{OutOfMemory}
 use Rattle.h26x_access_units.specs.declared.framing.Framing.{Framing}
-use Rattle.h26x_access_units.specs.Account.{ReceiverCall, PushCall, BackCall, NextCall, LackCall, FinishCall, RestartCall, SettingsCall, BeginCall, IsCall, AreReceiverCalls, no_call, one_call, kept_packets, may_drop, ended_streams, Account, no_account, packet_alone, AreInTurnBack, AreStreams, no_stream, one_stream, IsDueBehind, IsAccounted, IsAssemblerOf, new_assembler, one_taken, unit_ended, stream_ended, number_told, rest_dropped, texts_given, texts_of, AreGivenAssembled}
+use Rattle.h26x_access_units.specs.declared.counts.Counts.{Counts}
+use Rattle.h26x_access_units.specs.Counts.{counted_push, counted_reason, counted_dropped, counted_skip, counted_answer, counted_no_unit, counted_framing, counted_due, counted_unit}
+use Rattle.h26x_access_units.specs.declared.pushed.NotPushedReason.{NotPushedReason}
+use Rattle.h26x_access_units.specs.declared.pushed.NotPushedReason.TheVariants as reasons
+use Rattle.h26x_access_units.specs.Account.{ReceiverCall, PushCall, BackCall, NextCall, LackCall, FinishCall, RestartCall, SettingsCall, BeginCall, IsCall, AreReceiverCalls, no_call, one_call, kept_packets, may_drop, Account, no_account, packet_alone, AreInTurnBack, AreStreams, no_stream, one_stream, IsDueBehind, IsAccounted, IsAssemblerOf, new_assembler, one_taken, unit_ended, stream_ended, number_told, rest_dropped, texts_given, texts_of, tells_twice, tells_stray, tells_anew, tells_late, ends_stream, call_count}
 use Rattle.h26x_access_units.proofs.WaitingLemmas.{held_is, first_went}
 
 abbrev Packet : Type 0
@@ -466,6 +470,178 @@ module _ (texts : List (ℕ × List ℕ)) (packets : Packets) (a : Assembly) (it
   given_made : (unit : AccessUnitValue) (units : List AccessUnitValue) → a.ended ≡ unit ∷ units → bears_nothing unit.bytes ≡ false → Made (texts ++ (unit.timestamp, unit.bytes) ∷ []) packets (record a { ended = units })
   given_made unit units is e = subst (λ (t : List (ℕ × List ℕ)). Made t packets (record a { ended = units })) (ap (λ (t : List (ℕ × List ℕ)). texts ++ t) (rw e refl)) (first_made unit units is)
 
+-- the counts of packets that were due, together
+abbrev due_sum : Counts → ℕ
+due_sum c = c.taken + c.skipped + c.refused + c.no_unit + c.late
+
+-- one of these more is counted, and the others stay
+record OneMore (c new : Counts) : Type 0 where
+  one : due_sum c < 18446744073709551615 → due_sum new ≡ due_sum c + 1
+  twice : new.twice ≡ c.twice
+  stray : new.stray ≡ c.stray
+  anew : new.anew ≡ c.anew
+  units : new.units ≡ c.units
+
+skip_one : (c : Counts) (answer : Received) → OneMore c (counted_skip c answer)
+skip_one c (received.Late n) = record { one = λ lt. omega (arith, lt); twice = refl; stray = refl; anew = refl; units = refl }
+skip_one c received.InOrder = record { one = λ lt. omega (arith, lt); twice = refl; stray = refl; anew = refl; units = refl }
+skip_one c (received.Gap n) = record { one = λ lt. omega (arith, lt); twice = refl; stray = refl; anew = refl; units = refl }
+skip_one c (received.TooLong n) = record { one = λ lt. omega (arith, lt); twice = refl; stray = refl; anew = refl; units = refl }
+
+answer_one : (c : Counts) (answer : Received) (text : Bool) → OneMore c (counted_answer c answer text)
+answer_one c (received.Late n) text = record { one = λ lt. omega (arith, lt); twice = refl; stray = refl; anew = refl; units = refl }
+answer_one c received.InOrder text = record { one = λ lt. omega (arith, lt); twice = refl; stray = refl; anew = refl; units = refl }
+answer_one c (received.Gap n) text = record { one = λ lt. omega (arith, lt); twice = refl; stray = refl; anew = refl; units = refl }
+answer_one c (received.TooLong n) text = record { one = λ lt. omega (arith, lt); twice = refl; stray = refl; anew = refl; units = refl }
+
+no_unit_one : (c : Counts) (answer : Received) → OneMore c (counted_no_unit c answer)
+no_unit_one c (received.Late n) = record { one = λ lt. omega (arith, lt); twice = refl; stray = refl; anew = refl; units = refl }
+no_unit_one c received.InOrder = record { one = λ lt. omega (arith, lt); twice = refl; stray = refl; anew = refl; units = refl }
+no_unit_one c (received.Gap n) = record { one = λ lt. omega (arith, lt); twice = refl; stray = refl; anew = refl; units = refl }
+no_unit_one c (received.TooLong n) = record { one = λ lt. omega (arith, lt); twice = refl; stray = refl; anew = refl; units = refl }
+
+due_one : (expected : Option ℕ) (c : Counts) (p : Packet) (answer : Result Received PacketError) (text : Bool) → OneMore c (counted_due expected c p answer text)
+due_one expected c p (Ok answer) text = elim (bears_nothing p.1.payload) as (λ b. OneMore c (cond b (counted_skip c answer) (counted_answer c answer text))) [
+  | true ↦ skip_one c answer
+  | false ↦ answer_one c answer text
+]
+due_one expected c p (Err error) text = record { one = λ lt. omega (arith, lt); twice = refl; stray = refl; anew = refl; units = refl }
+
+framing_one : (c new : Counts) (still unbelieved : Bool) → OneMore c new → OneMore c (counted_framing new still unbelieved)
+framing_one c new still unbelieved it = record { one = it.one; twice = it.twice; stray = it.stray; anew = it.anew; units = it.units }
+
+answered_one : (a : Assembly) (c : Counts) (at : Framing) (p : Packet) (marker text : Bool) (answer : Result Received PacketError) → OneMore c (counts_answered a c at p marker text answer)
+answered_one a c at p marker text (Ok answer) =
+    let plain = counted_due a.expected c p (Ok answer) text in
+    let it = due_one a.expected c p (Ok answer) text in
+    elim (is_one_taken p answer) as (λ b. OneMore c (cond b (counted_framing plain (begins_still a at p) (marker && not p.1.marker)) plain)) [
+      | true ↦ framing_one c plain (begins_still a at p) (marker && not p.1.marker) it
+      | false ↦ it
+    ]
+answered_one a c at p marker text (Err error) = elim (is_no_unit a error p.1.payload) as (λ b. OneMore c (cond b (counted_no_unit c (skip_answer a.expected p.0)) (counted_due a.expected c p (Err error) text))) [
+  | true ↦ no_unit_one c (skip_answer a.expected p.0)
+  | false ↦ due_one a.expected c p (Err error) text
+]
+
+-- no more packets were kept, or told late, than calls made
+count_few : (tells : ReceiverCall → Bool) (calls : List ReceiverCall) → call_count tells calls ≤ length calls
+count_few tells [] = omega arith
+count_few tells (call ∷ calls) =
+    let rest = count_few tells calls in
+    elim (tells call) as (λ b. cond b (call_count tells calls + 1) (call_count tells calls) ≤ length (call ∷ calls)) [ true ↦ omega (arith, rest) | false ↦ omega (arith, rest) ]
+
+kept_few : (calls : List ReceiverCall) → length (kept_packets calls) + call_count tells_late calls ≤ length calls
+kept_few [] = omega arith
+kept_few (PushCall now p pushes.Held ∷ calls) = let rest = kept_few calls in omega (arith, rest)
+kept_few (PushCall now p (pushes.Late n) ∷ calls) = let rest = kept_few calls in omega (arith, rest)
+kept_few (PushCall now p pushes.Twice ∷ calls) = let rest = kept_few calls in omega (arith, rest)
+kept_few (PushCall now p pushes.Stray ∷ calls) = let rest = kept_few calls in omega (arith, rest)
+kept_few (PushCall now p pushes.Anew ∷ calls) = let rest = kept_few calls in omega (arith, rest)
+kept_few (PushCall now p pushes.Jumped ∷ calls) = let rest = kept_few calls in omega (arith, rest)
+kept_few (PushCall now p pushes.Full ∷ calls) = let rest = kept_few calls in omega (arith, rest)
+kept_few (BackCall p (reasons.Late n) ∷ calls) = let rest = kept_few calls in omega (arith, rest)
+kept_few (BackCall p reasons.Twice ∷ calls) = let rest = kept_few calls in omega (arith, rest)
+kept_few (BackCall p reasons.Full ∷ calls) = let rest = kept_few calls in omega (arith, rest)
+kept_few (BackCall p reasons.OutOfMemory ∷ calls) = let rest = kept_few calls in omega (arith, rest)
+kept_few (NextCall now unit ∷ calls) = let rest = kept_few calls in omega (arith, rest)
+kept_few (LackCall now ∷ calls) = let rest = kept_few calls in omega (arith, rest)
+kept_few (FinishCall ∷ calls) = let rest = kept_few calls in omega (arith, rest)
+kept_few (RestartCall ∷ calls) = let rest = kept_few calls in omega (arith, rest)
+kept_few (SettingsCall config ∷ calls) = let rest = kept_few calls in omega (arith, rest)
+kept_few (BeginCall number ∷ calls) = let rest = kept_few calls in omega (arith, rest)
+
+texts_few : (calls : List ReceiverCall) → length (texts_given calls) ≤ length calls
+texts_few [] = omega arith
+texts_few (NextCall now (Some unit) ∷ calls) =
+    let rest = texts_few calls in
+    let more_is = length-append (texts_given calls) ((unit.timestamp, unit.bytes) ∷ []) in
+    omega (arith, rest, more_is)
+texts_few (NextCall now None ∷ calls) = let rest = texts_few calls in omega (arith, rest)
+texts_few (PushCall now p answer ∷ calls) = let rest = texts_few calls in omega (arith, rest)
+texts_few (BackCall p reason ∷ calls) = let rest = texts_few calls in omega (arith, rest)
+texts_few (LackCall now ∷ calls) = let rest = texts_few calls in omega (arith, rest)
+texts_few (FinishCall ∷ calls) = let rest = texts_few calls in omega (arith, rest)
+texts_few (RestartCall ∷ calls) = let rest = texts_few calls in omega (arith, rest)
+texts_few (SettingsCall config ∷ calls) = let rest = texts_few calls in omega (arith, rest)
+texts_few (BeginCall number ∷ calls) = let rest = texts_few calls in omega (arith, rest)
+
+-- where fewer calls were made than a count goes to, the counts are of as many
+record Exact (calls : List ReceiverCall) (texts : List (ℕ × List ℕ)) (packets : Packets) (c : Counts) : Type 0 where
+  twice : c.twice ≡ call_count tells_twice calls
+  stray : c.stray ≡ call_count tells_stray calls
+  anew : c.anew ≡ call_count tells_anew calls
+  units : c.units ≡ length texts
+  handed : due_sum c ≡ length packets + call_count tells_late calls
+
+abbrev Counted : ℕ → List ReceiverCall → List (ℕ × List ℕ) → Packets → Counts → Type 0
+Counted n calls texts packets c = n < 18446744073709551616 → Exact calls texts packets c
+
+-- more are kept than were handed on, where one waits
+handed_few : (kept x h w : Packets) (p : Packet) → IsPermutation kept (x ++ (h ++ (p ∷ w))) → length h + 1 ≤ length kept
+handed_few kept x h w p exact =
+    let same = length_permutation kept (x ++ (h ++ (p ∷ w))) exact in
+    let first = length-append x (h ++ (p ∷ w)) in
+    let second = length-append h (p ∷ w) in
+    omega (arith, same, first, second)
+
+due_counted : (n : ℕ) (calls : List ReceiverCall) (texts : List (ℕ × List ℕ)) (packets : Packets) (p : Packet) (c new : Counts) → length packets + 1 + call_count tells_late calls ≤ n → OneMore c new → Counted n calls texts packets c → Counted n calls texts (p ∷ packets) new
+due_counted n calls texts packets p c new few one_more counted = λ lt.
+    let it = counted lt in
+    let sum = it.handed in
+    let one = one_more.one (omega (arith, lt, few, sum)) in
+    record {
+      twice = one_more.twice ∙ it.twice;
+      stray = one_more.stray ∙ it.stray;
+      anew = one_more.anew ∙ it.anew;
+      units = one_more.units ∙ it.units;
+      handed = omega (arith, one, sum);
+    }
+
+-- where other counts change alone
+same_counted : (n : ℕ) (calls : List ReceiverCall) (texts : List (ℕ × List ℕ)) (packets : Packets) (c : Counts) (lost : ℕ) → Counted n calls texts packets c → Counted n calls texts packets (counted_dropped c lost)
+same_counted n calls texts packets c lost counted = λ lt. let it = counted lt in record { twice = it.twice; stray = it.stray; anew = it.anew; units = it.units; handed = it.handed }
+
+-- an access unit more is given out
+unit_counted : (n : ℕ) (calls : List ReceiverCall) (texts : List (ℕ × List ℕ)) (packets : Packets) (c : Counts) (text : ℕ × List ℕ) (whole : Bool) → length texts ≤ n → Counted n calls texts packets c → Counted (n + 1) calls (texts ++ text ∷ []) packets (counted_unit c whole)
+unit_counted n calls texts packets c text whole few counted = λ lt.
+    let it = counted (omega (arith, lt)) in
+    let units = it.units in
+    let more_is = length-append texts (text ∷ []) in
+    record { twice = it.twice; stray = it.stray; anew = it.anew; units = omega (arith, units, more_is, few, lt); handed = it.handed }
+
+-- a packet is pushed
+push_counted : (calls : List ReceiverCall) (packets : Packets) (now : ℕ) (p : Packet) (c : Counts) (answer : Pushed) → length packets + call_count tells_late calls ≤ length calls → Counted (length calls) calls (texts_given calls) packets c →
+    Counted (length calls + 1) (PushCall now p answer ∷ calls) (texts_given calls) packets (counted_push c answer)
+push_counted calls packets now p c pushes.Held small counted = λ lt. let it = counted (omega (arith, lt)) in record { twice = it.twice; stray = it.stray; anew = it.anew; units = it.units; handed = it.handed }
+push_counted calls packets now p c pushes.Full small counted = λ lt. let it = counted (omega (arith, lt)) in record { twice = it.twice; stray = it.stray; anew = it.anew; units = it.units; handed = it.handed }
+push_counted calls packets now p c pushes.Jumped small counted = λ lt. let it = counted (omega (arith, lt)) in record { twice = it.twice; stray = it.stray; anew = it.anew; units = it.units; handed = it.handed }
+push_counted calls packets now p c (pushes.Late n) small counted = λ lt.
+    let it = counted (omega (arith, lt)) in
+    let sum = it.handed in
+    record { twice = it.twice; stray = it.stray; anew = it.anew; units = it.units; handed = omega (arith, sum, small, lt) }
+push_counted calls packets now p c pushes.Twice small counted = λ lt. let it = counted (omega (arith, lt)) in let few = count_few tells_twice calls in let is = it.twice in record { twice = omega (arith, few, is, lt); stray = it.stray; anew = it.anew; units = it.units; handed = it.handed }
+push_counted calls packets now p c pushes.Stray small counted = λ lt. let it = counted (omega (arith, lt)) in let few = count_few tells_stray calls in let is = it.stray in record { twice = it.twice; stray = omega (arith, few, is, lt); anew = it.anew; units = it.units; handed = it.handed }
+push_counted calls packets now p c pushes.Anew small counted = λ lt. let it = counted (omega (arith, lt)) in let few = count_few tells_anew calls in let is = it.anew in record { twice = it.twice; stray = it.stray; anew = omega (arith, few, is, lt); units = it.units; handed = it.handed }
+
+-- one comes back
+back_counted : (calls : List ReceiverCall) (packets : Packets) (p : Packet) (c : Counts) (reason : NotPushedReason) → length packets + call_count tells_late calls ≤ length calls → Counted (length calls) calls (texts_given calls) packets c →
+    Counted (length calls + 1) (BackCall p reason ∷ calls) (texts_given calls) packets (counted_reason c reason)
+back_counted calls packets p c (reasons.Late n) small counted = λ lt.
+    let it = counted (omega (arith, lt)) in
+    let sum = it.handed in
+    record { twice = it.twice; stray = it.stray; anew = it.anew; units = it.units; handed = omega (arith, sum, small, lt) }
+back_counted calls packets p c reasons.Twice small counted = λ lt. let it = counted (omega (arith, lt)) in let few = count_few tells_twice calls in let is = it.twice in record { twice = omega (arith, few, is, lt); stray = it.stray; anew = it.anew; units = it.units; handed = it.handed }
+back_counted calls packets p c reasons.Full small counted = λ lt. let it = counted (omega (arith, lt)) in record { twice = it.twice; stray = it.stray; anew = it.anew; units = it.units; handed = it.handed }
+back_counted calls packets p c reasons.OutOfMemory small counted = λ lt. let it = counted (omega (arith, lt)) in record { twice = it.twice; stray = it.stray; anew = it.anew; units = it.units; handed = it.handed }
+
+-- those that were handed on were kept
+handed_kept : (kept x h w : Packets) → IsPermutation kept (x ++ (h ++ w)) → length h ≤ length kept
+handed_kept kept x h w exact =
+    let same = length_permutation kept (x ++ (h ++ w)) exact in
+    let first = length-append x (h ++ w) in
+    let second = length-append h w in
+    omega (arith, same, first, second)
+
 -- an account once a packet came
 record After (packets kept : Packets) (drops : Bool) (most : ℕ) (j : JitterState) (stray : Option Packet) : Type 0 where
   account : Account
@@ -546,14 +722,15 @@ module _ (kept : Packets) (drops : Bool) (most : ℕ) (a : Account) (now : ℕ) 
       }
 
 -- an account of what waits, and of the packet that waits alone
-record Whole (kept : Packets) (drops : Bool) (most : ℕ) (texts : List (ℕ × List ℕ)) (s : Reception) : Type 0 where
+record Whole (kept : Packets) (drops : Bool) (most : ℕ) (texts : List (ℕ × List ℕ)) (n : ℕ) (calls : List ReceiverCall) (s : Reception) : Type 0 where
   account : Account
   ledger : Ledger kept drops most account s.waiting s.stray
   made : Made texts (account.handed ++ account.earlier) s.assembler
+  counted : Counted n calls texts (account.handed ++ account.earlier) s.counts
 
 -- so by calls
 abbrev WholeOf : List ReceiverCall → Reception → Type 0
-WholeOf calls s = Whole (kept_packets calls) (list_any may_drop calls) (ended_streams calls) (texts_given calls) s
+WholeOf calls s = Whole (kept_packets calls) (list_any may_drop calls) (call_count ends_stream calls) (texts_given calls) (length calls) calls s
 
 -- what is given out, by its timestamp and bytes
 abbrev unit_texts : Option ReceivedAccessUnitValue → List (ℕ × List ℕ)
@@ -561,48 +738,57 @@ unit_texts None = []
 unit_texts (Some unit) = (unit.timestamp, unit.bytes) ∷ []
 
 -- each step of a receiver
-module _ (kept : Packets) (drops : Bool) (most : ℕ) (texts : List (ℕ × List ℕ)) where
-  due_whole : (now : ℕ) (s t : Reception) → IsDueTaken now s t → Whole kept drops most texts s → Whole kept drops most texts t
+module _ (kept : Packets) (drops : Bool) (most : ℕ) (texts : List (ℕ × List ℕ)) (n : ℕ) (calls : List ReceiverCall) (bound : length kept + call_count tells_late calls ≤ n) (few_texts : length texts ≤ n) where
+  due_whole : (now : ℕ) (s t : Reception) → IsDueTaken now s t → Whole kept drops most texts n calls s → Whole kept drops most texts n calls t
   due_whole now s t it whole =
       let j = s.waiting in
+      let a = whole.account in
+      let l = whole.ledger in
       let first = first_is_due (is_pressed now j) j.buffer.window j.buffer.due j.buffer.held it.packet it.due in
-      subst (Whole kept drops most texts) (sym it.stands) (record {
+      subst (Whole kept drops most texts n calls) (sym it.stands) (record {
         account = with_handed it.packet whole.account;
         ledger = hands kept drops most whole.account j s.stray it.packet whole.ledger first;
         made = taken_made texts (whole.account.handed ++ whole.account.earlier) s.assembler whole.made s.run_limit s.unit_limit (framing_at s it.packet) it.packet it.answer it.answered it.room;
+        counted =
+            let went = first_went j.buffer it.packet first in
+            let rest = (without_first j.buffer).held in
+            let few = handed_few kept (a.dropped ++ packet_alone s.stray) (a.handed ++ a.earlier) rest it.packet (subst (λ (x : Packets). IsPermutation kept ((a.dropped ++ packet_alone s.stray) ++ ((a.handed ++ a.earlier) ++ x))) went.held l.exact) in
+            let one = answered_one (begun_for s.assembler it.packet) s.counts (framing_at s it.packet) (believed_packet s it.packet) it.packet.1.marker
+            (is_text_given_up s.run_limit s.unit_limit (begun_for s.assembler it.packet) (believed_packet s it.packet)) it.answer in
+            due_counted n calls texts (a.handed ++ a.earlier) it.packet s.counts (after_due s it.packet it.answer).counts (omega (arith, few, bound)) one whole.counted;
       })
 
-  ended_whole : (now : ℕ) (s t : Reception) → IsEndedBefore now s t → Whole kept drops most texts s → Whole kept drops most texts t
-  ended_whole now s t it whole = subst (Whole kept drops most texts) (sym it.stands)
-      (elim (is_behind_missing s.assembler it.packet.0) as (λ b. Whole kept drops most texts (cond b (ended_behind_missing s it.packet) (ended_by_content s))) [
-        | true ↦ record { account = whole.account; ledger = whole.ledger; made = finishing_made texts (whole.account.handed ++ whole.account.earlier) s.assembler whole.made }
-        | false ↦ record { account = whole.account; ledger = whole.ledger; made = ending_made texts (whole.account.handed ++ whole.account.earlier) s.assembler whole.made }
+  ended_whole : (now : ℕ) (s t : Reception) → IsEndedBefore now s t → Whole kept drops most texts n calls s → Whole kept drops most texts n calls t
+  ended_whole now s t it whole = subst (Whole kept drops most texts n calls) (sym it.stands)
+      (elim (is_behind_missing s.assembler it.packet.0) as (λ b. Whole kept drops most texts n calls (cond b (ended_behind_missing s it.packet) (ended_by_content s))) [
+        | true ↦ record { account = whole.account; ledger = whole.ledger; made = finishing_made texts (whole.account.handed ++ whole.account.earlier) s.assembler whole.made; counted = same_counted n calls texts (whole.account.handed ++ whole.account.earlier) s.counts (missing_count s.assembler.expected it.packet.0) whole.counted }
+        | false ↦ record { account = whole.account; ledger = whole.ledger; made = ending_made texts (whole.account.handed ++ whole.account.earlier) s.assembler whole.made; counted = whole.counted }
       ])
 
-  bare_whole_of : (units : List AccessUnitValue) (s : Reception) → s.assembler.ended ≡ units → Whole kept drops most texts s → Whole kept drops most texts (without_bare_of s units)
+  bare_whole_of : (units : List AccessUnitValue) (s : Reception) → s.assembler.ended ≡ units → Whole kept drops most texts n calls s → Whole kept drops most texts n calls (without_bare_of s units)
   bare_whole_of [] s is whole = whole
-  bare_whole_of (unit ∷ units) s is whole = elim (bears_nothing unit.bytes) as (λ b. bears_nothing unit.bytes ≡ b → Whole kept drops most texts (cond b (without_bare_of (bare_passed s unit units) units) s)) [
-    | true ↦ λ e. bare_whole_of units (bare_passed s unit units) refl (record { account = whole.account; ledger = whole.ledger; made = bare_made texts (whole.account.handed ++ whole.account.earlier) s.assembler whole.made unit units is e })
+  bare_whole_of (unit ∷ units) s is whole = elim (bears_nothing unit.bytes) as (λ b. bears_nothing unit.bytes ≡ b → Whole kept drops most texts n calls (cond b (without_bare_of (bare_passed s unit units) units) s)) [
+    | true ↦ λ e. bare_whole_of units (bare_passed s unit units) refl (record { account = whole.account; ledger = whole.ledger; made = bare_made texts (whole.account.handed ++ whole.account.earlier) s.assembler whole.made unit units is e; counted = whole.counted })
     | false ↦ λ e. whole
   ] refl
 
-  bare_whole : (s : Reception) → Whole kept drops most texts s → Whole kept drops most texts (without_bare s)
+  bare_whole : (s : Reception) → Whole kept drops most texts n calls s → Whole kept drops most texts n calls (without_bare s)
   bare_whole s whole = bare_whole_of s.assembler.ended s refl whole
 
-  drained_whole : (now : ℕ) (s t : Reception) → IsDrained now s t → Whole kept drops most texts s → Whole kept drops most texts t
+  drained_whole : (now : ℕ) (s t : Reception) → IsDrained now s t → Whole kept drops most texts n calls s → Whole kept drops most texts n calls t
   drained_whole now s t none whole = whole
   drained_whole now s t (bare before) whole = bare_whole _ (drained_whole now s _ before whole)
   drained_whole now s t (more before empty taken) whole = due_whole now _ t taken (drained_whole now s _ before whole)
   drained_whole now s t (behind before empty ended) whole = ended_whole now _ t ended (drained_whole now s _ before whole)
 
-  anew_whole : (s : Reception) → Whole kept drops most texts s → Whole kept drops most texts (ended_if_anew s)
-  anew_whole s whole = elim (has_no_unit s.assembler.ended && s.is_anew) as (λ b. (has_no_unit s.assembler.ended && s.is_anew) ≡ b → Whole kept drops most texts (ended_if_anew s)) [
-    | true ↦ λ e. rw e (record { account = whole.account; ledger = whole.ledger; made = finishing_made texts (whole.account.handed ++ whole.account.earlier) s.assembler whole.made })
+  anew_whole : (s : Reception) → Whole kept drops most texts n calls s → Whole kept drops most texts n calls (ended_if_anew s)
+  anew_whole s whole = elim (has_no_unit s.assembler.ended && s.is_anew) as (λ b. (has_no_unit s.assembler.ended && s.is_anew) ≡ b → Whole kept drops most texts n calls (ended_if_anew s)) [
+    | true ↦ λ e. rw e (record { account = whole.account; ledger = whole.ledger; made = finishing_made texts (whole.account.handed ++ whole.account.earlier) s.assembler whole.made; counted = whole.counted })
     | false ↦ λ e. rw e whole
   ] refl
 
   -- at the end none waits but the packet alone, which is dropped
-  finish_whole : (s : Reception) → s.waiting.buffer.held ≡ [] → s.waiting.is_over ≡ true → Whole kept drops most texts s → Whole kept drops most texts (after_finish s)
+  finish_whole : (s : Reception) → s.waiting.buffer.held ≡ [] → s.waiting.is_over ≡ true → Whole kept drops most texts n calls s → Whole kept drops most texts n calls (after_finish s)
   finish_whole s empty over whole =
       let a = whole.account in
       let l = whole.ledger in
@@ -611,6 +797,7 @@ module _ (kept : Packets) (drops : Bool) (most : ℕ) (texts : List (ℕ × List
       record {
         account = ended_with a (a.dropped ++ alone);
         made = finishing_made texts (a.handed ++ a.earlier) s.assembler whole.made;
+        counted = whole.counted;
         ledger = record {
           exact = subst (λ (x : Packets). IsPermutation kept ((x ++ []) ++ ((a.handed ++ a.earlier) ++ []))) (sym same)
               (parts_dropped kept a.dropped alone (a.handed ++ a.earlier) s.waiting.buffer.held l.exact);
@@ -635,23 +822,24 @@ module _ (kept : Packets) (drops : Bool) (most : ℕ) (texts : List (ℕ × List
   no_unit_is [] e = refl
   no_unit_is (unit ∷ units) e = absurd (let bad = e in cc)
 
-  over_whole : (now : ℕ) (s : Reception) → NoneIsDueUnlessEnded now s → Whole kept drops most texts s → Whole kept drops most texts (ended_if_over s)
+  over_whole : (now : ℕ) (s : Reception) → NoneIsDueUnlessEnded now s → Whole kept drops most texts n calls s → Whole kept drops most texts n calls (ended_if_over s)
   over_whole now s until whole =
-      elim (has_no_unit s.assembler.ended) as (λ n. has_no_unit s.assembler.ended ≡ n → Whole kept drops most texts (cond (n && s.waiting.is_over) (after_finish s) s)) [
-        | true ↦ λ n. elim s.waiting.is_over as (λ o. s.waiting.is_over ≡ o → Whole kept drops most texts (cond o (after_finish s) s)) [
-          | true ↦ λ o. finish_whole s (none_waits now s.waiting o (until (no_unit_is s.assembler.ended n))) o whole
+      elim (has_no_unit s.assembler.ended) as (λ m. has_no_unit s.assembler.ended ≡ m → Whole kept drops most texts n calls (cond (m && s.waiting.is_over) (after_finish s) s)) [
+        | true ↦ λ m. elim s.waiting.is_over as (λ o. s.waiting.is_over ≡ o → Whole kept drops most texts n calls (cond o (after_finish s) s)) [
+          | true ↦ λ o. finish_whole s (none_waits now s.waiting o (until (no_unit_is s.assembler.ended m))) o whole
           | false ↦ λ o. whole
         ] refl
-        | false ↦ λ n. whole
+        | false ↦ λ m. whole
       ] refl
 
   -- the first that ended is given out, where it has bytes
-  given_whole : (s : Reception) → has_bare s.assembler.ended ≡ false → Whole kept drops most texts s → Whole kept drops most (texts ++ unit_texts (unit_given s)) (without_given s)
+  given_whole : (s : Reception) → has_bare s.assembler.ended ≡ false → Whole kept drops most texts n calls s → Whole kept drops most (texts ++ unit_texts (unit_given s)) (n + 1) calls (without_given s)
   given_whole s some whole = by s.assembler.ended refl some
     where
-      by : (ended : List AccessUnitValue) → s.assembler.ended ≡ ended → has_bare ended ≡ false → Whole kept drops most (texts ++ unit_texts (unit_given_of s ended)) (without_given_of s ended)
-      by [] is e = subst (λ (t : List (ℕ × List ℕ)). Whole kept drops most t s) (sym (append-nil texts)) whole
-      by (unit ∷ units) is e = record { account = whole.account; ledger = whole.ledger; made = given_made texts (whole.account.handed ++ whole.account.earlier) s.assembler whole.made unit units is e }
+      by : (ended : List AccessUnitValue) → s.assembler.ended ≡ ended → has_bare ended ≡ false → Whole kept drops most (texts ++ unit_texts (unit_given_of s ended)) (n + 1) calls (without_given_of s ended)
+      by [] is e = subst (λ (t : List (ℕ × List ℕ)). Whole kept drops most t (n + 1) calls s) (sym (append-nil texts))
+          (record { account = whole.account; ledger = whole.ledger; made = whole.made; counted = λ lt. whole.counted (omega (arith, lt)) })
+      by (unit ∷ units) is e = record { account = whole.account; ledger = whole.ledger; made = given_made texts (whole.account.handed ++ whole.account.earlier) s.assembler whole.made unit units is e; counted = unit_counted n calls texts (whole.account.handed ++ whole.account.earlier) s.counts (unit.timestamp, unit.bytes) (whole_with s.decoder s.assembler.state.is_avc unit (first_ended s.numbers)) few_texts whole.counted }
 
   -- those without bytes were passed over
   none_bare_of : (units : List AccessUnitValue) (s : Reception) → s.assembler.ended ≡ units → has_bare (without_bare_of s units).assembler.ended ≡ false
@@ -661,24 +849,24 @@ module _ (kept : Packets) (drops : Bool) (most : ℕ) (texts : List (ℕ × List
     | false ↦ λ e. ap has_bare is ∙ e
   ] refl
 
-  begun_whole : (s : Reception) → Whole kept drops most texts s → Whole kept drops most texts (ended_if_anew (without_bare s))
+  begun_whole : (s : Reception) → Whole kept drops most texts n calls s → Whole kept drops most texts n calls (ended_if_anew (without_bare s))
   begun_whole s whole = anew_whole (without_bare s) (bare_whole s whole)
 
-  next_whole : (now : ℕ) (s new : Reception) (unit : Option ReceivedAccessUnitValue) → IsNext now s new unit → Whole kept drops most texts s → Whole kept drops most (texts ++ unit_texts unit) new
+  next_whole : (now : ℕ) (s new : Reception) (unit : Option ReceivedAccessUnitValue) → IsNext now s new unit → Whole kept drops most texts n calls s → Whole kept drops most (texts ++ unit_texts unit) (n + 1) calls new
   next_whole now s new unit it whole =
       let last = ended_if_over it.drained in
-      subst (λ (u : Option ReceivedAccessUnitValue). Whole kept drops most (texts ++ unit_texts u) new) (sym it.unit_is)
-      (subst (Whole kept drops most (texts ++ unit_texts (unit_given (without_bare last)))) (sym it.stands)
+      subst (λ (u : Option ReceivedAccessUnitValue). Whole kept drops most (texts ++ unit_texts u) (n + 1) calls new) (sym it.unit_is)
+      (subst (Whole kept drops most (texts ++ unit_texts (unit_given (without_bare last))) (n + 1) calls) (sym it.stands)
       (given_whole (without_bare last) (none_bare_of last.assembler.ended last refl)
       (bare_whole last
       (over_whole now it.drained it.until
       (drained_whole now (ended_if_anew (without_bare s)) it.drained it.taken (begun_whole s whole))))))
 
-  lack_whole : (now : ℕ) (s new : Reception) → IsDrainedInPart now s new → Whole kept drops most texts s → Whole kept drops most texts new
-  lack_whole now s new (inl same) whole = subst (Whole kept drops most texts) (sym same) (bare_whole s whole)
+  lack_whole : (now : ℕ) (s new : Reception) → IsDrainedInPart now s new → Whole kept drops most texts n calls s → Whole kept drops most texts n calls new
+  lack_whole now s new (inl same) whole = subst (Whole kept drops most texts n calls) (sym same) (bare_whole s whole)
   lack_whole now s new (inr taken) whole = drained_whole now (ended_if_anew (without_bare s)) new taken (begun_whole s whole)
 
-  restart_whole : (s : Reception) → Whole kept drops most texts s → Whole kept true (most + 1) texts (restarted s)
+  restart_whole : (s : Reception) → Whole kept drops most texts n calls s → Whole kept true (most + 1) texts n calls (restarted s)
   restart_whole s whole =
       let a = whole.account in
       let l = whole.ledger in
@@ -686,6 +874,7 @@ module _ (kept : Packets) (drops : Bool) (most : ℕ) (texts : List (ℕ × List
       record {
         account = ended_with a ((a.dropped ++ alone) ++ s.waiting.buffer.held);
         made = restart_made texts (a.handed ++ a.earlier) s.assembler whole.made;
+        counted = whole.counted;
         ledger = record {
           exact = parts_dropped kept a.dropped alone (a.handed ++ a.earlier) s.waiting.buffer.held l.exact;
           quiet = λ e. absurd (let bad = e in cc);
@@ -698,12 +887,13 @@ module _ (kept : Packets) (drops : Bool) (most : ℕ) (texts : List (ℕ × List
         };
       }
 
-  end_whole : (s : Reception) → Whole kept drops most texts s → Whole kept drops (most + 1) texts (ended_reception s)
+  end_whole : (s : Reception) → Whole kept drops most texts n calls s → Whole kept drops (most + 1) texts n calls (ended_reception s)
   end_whole s whole =
       let l = whole.ledger in
       record {
         account = whole.account;
         made = whole.made;
+        counted = whole.counted;
         ledger = record {
           exact = l.exact;
           quiet = l.quiet;
@@ -716,12 +906,13 @@ module _ (kept : Packets) (drops : Bool) (most : ℕ) (texts : List (ℕ × List
         };
       }
 
-  settings_whole : (config : AccessUnitConfig) (s : Reception) → Whole kept drops most texts s → Whole kept drops most texts (with_settings config s)
+  settings_whole : (config : AccessUnitConfig) (s : Reception) → Whole kept drops most texts n calls s → Whole kept drops most texts n calls (with_settings config s)
   settings_whole config s whole =
       let l = whole.ledger in
       record {
         account = whole.account;
         made = whole.made;
+        counted = whole.counted;
         ledger = record { exact = l.exact; quiet = l.quiet; turn = l.turn; before = l.before; few = l.few; due = l.due; waits = l.waits; numbered = l.numbered };
       }
 
@@ -749,10 +940,10 @@ module _ (kept : Packets) (drops : Bool) (most : ℕ) (texts : List (ℕ × List
       }
       by (Some d) due waits = record { exact = l.exact; quiet = l.quiet; turn = l.turn; before = l.before; few = l.few; due = due; waits = waits; numbered = l.numbered }
 
-  begin_whole : (number : ℕ) (s : Reception) → number < 65536 → Whole kept drops most texts s → Whole kept drops most texts (begun_reception number s)
+  begin_whole : (number : ℕ) (s : Reception) → number < 65536 → Whole kept drops most texts n calls s → Whole kept drops most texts n calls (begun_reception number s)
   begin_whole number s small whole =
-      elim (may_tell_first s.waiting) as (λ b. may_tell_first s.waiting ≡ b → Whole kept drops most texts (begun_reception number s)) [
-        | true ↦ λ e. rw e (record { account = whole.account; ledger = told_ledger whole.account number s.waiting s.stray small whole.ledger; made = told_made texts (whole.account.handed ++ whole.account.earlier) s.assembler whole.made number })
+      elim (may_tell_first s.waiting) as (λ b. may_tell_first s.waiting ≡ b → Whole kept drops most texts n calls (begun_reception number s)) [
+        | true ↦ λ e. rw e (record { account = whole.account; ledger = told_ledger whole.account number s.waiting s.stray small whole.ledger; made = told_made texts (whole.account.handed ++ whole.account.earlier) s.assembler whole.made number; counted = whole.counted })
         | false ↦ λ e. rw e whole
       ] refl
 
@@ -809,53 +1000,169 @@ one_alone s p answer either is none_is = by (way_of s p.0) is
         (e ∙ ap (λ (x : Option Packet). cond (is_near_stray s.waiting.buffer.window x p.0) (cond (is_full s.waiting (length p.1.payload)) pushes.Full pushes.Jumped) pushes.Stray) none_is) (λ bad. cc) (λ bad. cc)
     by ways.Window e = not_window s.waiting p answer either e
 
+-- its answer is counted
+pushed_count : (calls : List ReceiverCall) (now : ℕ) (s : Reception) (p : Packet) (answer : Pushed) (whole : WholeOf calls s) →
+    Counted (length (PushCall now p answer ∷ calls)) (PushCall now p answer ∷ calls) (texts_given calls) (whole.account.handed ++ whole.account.earlier) (after_reception now s p answer).counts
+pushed_count calls now s p answer whole = by answer
+  where
+    small : length (whole.account.handed ++ whole.account.earlier) + call_count tells_late calls ≤ length calls
+    small =
+        let bound = kept_few calls in
+        let few = handed_kept (kept_packets calls) (whole.account.dropped ++ packet_alone s.stray) (whole.account.handed ++ whole.account.earlier) s.waiting.buffer.held whole.ledger.exact in
+        omega (arith, bound, few)
+
+    by : (answer : Pushed) → Counted (length (PushCall now p answer ∷ calls)) (PushCall now p answer ∷ calls) (texts_given calls) (whole.account.handed ++ whole.account.earlier) (after_reception now s p answer).counts
+    by pushes.Held = λ lt. push_counted calls (whole.account.handed ++ whole.account.earlier) now p s.counts pushes.Held small whole.counted (omega (arith, lt))
+    by (pushes.Late n) = λ lt. push_counted calls (whole.account.handed ++ whole.account.earlier) now p s.counts (pushes.Late n) small whole.counted (omega (arith, lt))
+    by pushes.Twice = λ lt. push_counted calls (whole.account.handed ++ whole.account.earlier) now p s.counts pushes.Twice small whole.counted (omega (arith, lt))
+    by pushes.Full = λ lt. push_counted calls (whole.account.handed ++ whole.account.earlier) now p s.counts pushes.Full small whole.counted (omega (arith, lt))
+    by pushes.Stray = λ lt. push_counted calls (whole.account.handed ++ whole.account.earlier) now p s.counts pushes.Stray small whole.counted (omega (arith, lt))
+    by pushes.Jumped = λ lt. push_counted calls (whole.account.handed ++ whole.account.earlier) now p s.counts pushes.Jumped small whole.counted (omega (arith, lt))
+    by pushes.Anew = same_counted (length (PushCall now p pushes.Anew ∷ calls)) (PushCall now p pushes.Anew ∷ calls) (texts_given calls) (whole.account.handed ++ whole.account.earlier) (counted_push s.counts pushes.Anew) (length s.waiting.buffer.held)
+        (λ lt. push_counted calls (whole.account.handed ++ whole.account.earlier) now p s.counts pushes.Anew small whole.counted (omega (arith, lt)))
+
 -- a packet that comes is put aside
 aside_whole : (calls : List ReceiverCall) (now : ℕ) (s : Reception) (p : Packet) (answer : Pushed) → p.0 < 65536 → answer ≡ reception_answer s p → WholeOf calls s → WholeOf (PushCall now p answer ∷ calls) (after_reception now s p answer)
-aside_whole calls now s p pushes.Held small is whole = record {
-  account = whole.account;
-  made = whole.made;
-  ledger = held_after (kept_packets calls) (list_any may_drop calls) (ended_streams calls) whole.account now s.waiting s.stray p small whole.ledger (told_held s p is);
-}
-aside_whole calls now s p (pushes.Late n) small is whole = record { account = whole.account; ledger = whole.ledger; made = whole.made }
-aside_whole calls now s p pushes.Twice small is whole = record { account = whole.account; ledger = whole.ledger; made = whole.made }
-aside_whole calls now s p pushes.Full small is whole = record { account = whole.account; ledger = whole.ledger; made = whole.made }
-aside_whole calls now s p pushes.Stray small is whole = record {
-  account = record whole.account { dropped = whole.account.dropped ++ packet_alone s.stray };
-  made = whole.made;
-  ledger = stray_after (kept_packets calls) (list_any may_drop calls) (ended_streams calls) whole.account now s.waiting s.stray p small whole.ledger;
-}
+aside_whole calls now s p pushes.Held small is whole =
+    let calls_then = PushCall now p pushes.Held ∷ calls in
+    let asides = pushed_count calls now s p pushes.Held whole in
+    record {
+      account = whole.account;
+      made = whole.made;
+      counted = asides;
+      ledger = held_after (kept_packets calls) (list_any may_drop calls) (call_count ends_stream calls) whole.account now s.waiting s.stray p small whole.ledger (told_held s p is);
+    }
+aside_whole calls now s p (pushes.Late n) small is whole =
+    let calls_then = PushCall now p (pushes.Late n) ∷ calls in
+    let asides = pushed_count calls now s p (pushes.Late n) whole in
+    record { account = whole.account; ledger = whole.ledger; made = whole.made; counted = asides }
+aside_whole calls now s p pushes.Twice small is whole =
+    let calls_then = PushCall now p pushes.Twice ∷ calls in
+    let asides = pushed_count calls now s p pushes.Twice whole in
+    record { account = whole.account; ledger = whole.ledger; made = whole.made; counted = asides }
+aside_whole calls now s p pushes.Full small is whole =
+    let calls_then = PushCall now p pushes.Full ∷ calls in
+    let asides = pushed_count calls now s p pushes.Full whole in
+    record { account = whole.account; ledger = whole.ledger; made = whole.made; counted = asides }
+aside_whole calls now s p pushes.Stray small is whole =
+    let calls_then = PushCall now p pushes.Stray ∷ calls in
+    let asides = pushed_count calls now s p pushes.Stray whole in
+    record {
+      account = record whole.account { dropped = whole.account.dropped ++ packet_alone s.stray };
+      made = whole.made;
+      counted = asides;
+      ledger = stray_after (kept_packets calls) (list_any may_drop calls) (call_count ends_stream calls) whole.account now s.waiting s.stray p small whole.ledger;
+    }
 aside_whole calls now s p pushes.Jumped small is whole =
-    let it = jumped_after (kept_packets calls) (list_any may_drop calls) (ended_streams calls) whole.account now s.waiting s.stray p small whole.ledger (one_alone s p pushes.Jumped (inl refl) is) in
-    record { account = it.account; ledger = it.ledger; made = subst (λ (packets : Packets). Made (texts_given calls) packets s.assembler) (sym it.same) whole.made }
+    let calls_then = PushCall now p pushes.Jumped ∷ calls in
+    let asides = pushed_count calls now s p pushes.Jumped whole in
+    let it = jumped_after (kept_packets calls) (list_any may_drop calls) (call_count ends_stream calls) whole.account now s.waiting s.stray p small whole.ledger (one_alone s p pushes.Jumped (inl refl) is) in
+    record { account = it.account; ledger = it.ledger; made = subst (λ (packets : Packets). Made (texts_given calls) packets s.assembler) (sym it.same) whole.made; counted = subst (λ (packets : Packets). Counted (length calls_then) calls_then (texts_given calls) packets (after_reception now s p pushes.Jumped).counts) (sym it.same) asides }
 aside_whole calls now s p pushes.Anew small is whole =
-    let it = anew_after (kept_packets calls) (list_any may_drop calls) (ended_streams calls) whole.account now s.waiting s.stray p small whole.ledger (one_alone s p pushes.Anew (inr refl) is) in
-    record { account = it.account; ledger = it.ledger; made = subst (λ (packets : Packets). Made (texts_given calls) packets s.assembler) (sym it.same) whole.made }
+    let calls_then = PushCall now p pushes.Anew ∷ calls in
+    let asides = pushed_count calls now s p pushes.Anew whole in
+    let it = anew_after (kept_packets calls) (list_any may_drop calls) (call_count ends_stream calls) whole.account now s.waiting s.stray p small whole.ledger (one_alone s p pushes.Anew (inr refl) is) in
+    record { account = it.account; ledger = it.ledger; made = subst (λ (packets : Packets). Made (texts_given calls) packets s.assembler) (sym it.same) whole.made; counted = subst (λ (packets : Packets). Counted (length calls_then) calls_then (texts_given calls) packets (after_reception now s p pushes.Anew).counts) (sym it.same) asides }
 
 push_whole : (calls : List ReceiverCall) (now : ℕ) (s new : Reception) (p : Packet) (answer : Pushed) → p.0 < 65536 → answer ≡ reception_answer s p → IsPushed now s p answer new → WholeOf calls s → WholeOf (PushCall now p answer ∷ calls) new
 push_whole calls now s new p answer small is it whole =
     let calls_then = PushCall now p answer ∷ calls in
     let aside = aside_whole calls now s p answer small is whole in
     elim (is_taken_at_once s p) as (λ b. MatchBool b (IsDueTaken now (after_reception now s p answer) new) (new ≡ after_reception now s p answer) → WholeOf calls_then new) [
-      | true ↦ λ taken. due_whole (kept_packets calls_then) (list_any may_drop calls_then) (ended_streams calls_then) (texts_given calls_then) now (after_reception now s p answer) new taken aside
+      | true ↦ λ taken. due_whole (kept_packets calls_then) (list_any may_drop calls_then) (call_count ends_stream calls_then) (texts_given calls_then) (length calls_then) calls_then (kept_few calls_then) (texts_few calls_then) now (after_reception now s p answer) new taken aside
       | false ↦ λ stands. subst (WholeOf calls_then) (sym stands) aside
     ] it
 
+-- so after a call that tells nothing of a packet
+again : (call : ReceiverCall) (calls : List ReceiverCall) (texts : List (ℕ × List ℕ)) (packets : Packets) (c : Counts) (n : ℕ) → n ≤ length calls + 1 →
+    tells_twice call ≡ false → tells_stray call ≡ false → tells_anew call ≡ false → tells_late call ≡ false → Counted n calls texts packets c → Counted (length (call ∷ calls)) (call ∷ calls) texts packets c
+again call calls texts packets c n le twice stray anew late counted = λ lt.
+    let it = counted (omega (arith, lt, le)) in
+    record {
+      twice = it.twice ∙ sym (rw twice refl);
+      stray = it.stray ∙ sym (rw stray refl);
+      anew = it.anew ∙ sym (rw anew refl);
+      units = it.units;
+      handed = it.handed ∙ ap (λ (m : ℕ). length packets + m) (sym (rw late refl));
+    }
+
 call_whole : (call : ReceiverCall) (calls : List ReceiverCall) (s new : Reception) → IsCall call s new → WholeOf calls s → WholeOf (call ∷ calls) new
 call_whole (PushCall now p answer) calls s new it whole = push_whole calls now s new p answer it.0 it.1 it.2 whole
-call_whole (BackCall p reason) calls s new it whole = subst (WholeOf calls) (sym it.1) (record { account = whole.account; ledger = whole.ledger; made = whole.made })
-call_whole (NextCall now None) calls s new it whole = subst (λ (t : List (ℕ × List ℕ)). Whole (kept_packets calls) (list_any may_drop calls) (ended_streams calls) t new) (append-nil (texts_given calls))
-    (next_whole (kept_packets calls) (list_any may_drop calls) (ended_streams calls) (texts_given calls) now s new None it whole)
-call_whole (NextCall now (Some unit)) calls s new it whole = next_whole (kept_packets calls) (list_any may_drop calls) (ended_streams calls) (texts_given calls) now s new (Some unit) it whole
-call_whole (LackCall now) calls s new it whole = lack_whole (kept_packets calls) (list_any may_drop calls) (ended_streams calls) (texts_given calls) now s new it whole
-call_whole FinishCall calls s new it whole = subst (WholeOf (FinishCall ∷ calls)) (sym it) (end_whole (kept_packets calls) (list_any may_drop calls) (ended_streams calls) (texts_given calls) s whole)
-call_whole RestartCall calls s new it whole = subst (WholeOf (RestartCall ∷ calls)) (sym it) (restart_whole (kept_packets calls) (list_any may_drop calls) (ended_streams calls) (texts_given calls) s whole)
-call_whole (SettingsCall config) calls s new it whole = subst (WholeOf calls) (sym it) (settings_whole (kept_packets calls) (list_any may_drop calls) (ended_streams calls) (texts_given calls) config s whole)
-call_whole (BeginCall number) calls s new it whole = subst (WholeOf calls) (sym it.1) (begin_whole (kept_packets calls) (list_any may_drop calls) (ended_streams calls) (texts_given calls) number s it.0 whole)
+call_whole (BackCall p reason) calls s new it whole =
+    let a = whole.account in
+    let bound = kept_few calls in
+    let few = handed_kept (kept_packets calls) (a.dropped ++ packet_alone s.stray) (a.handed ++ a.earlier) s.waiting.buffer.held whole.ledger.exact in
+    subst (WholeOf (BackCall p reason ∷ calls)) (sym it.1) (record {
+      account = whole.account;
+      ledger = whole.ledger;
+      made = whole.made;
+      counted = λ lt. back_counted calls (a.handed ++ a.earlier) p s.counts reason (omega (arith, bound, few)) whole.counted (omega (arith, lt));
+    })
+call_whole (NextCall now None) calls s new it whole =
+    let w = next_whole (kept_packets calls) (list_any may_drop calls) (call_count ends_stream calls) (texts_given calls) (length calls) calls (kept_few calls) (texts_few calls) now s new None it whole in
+    let texts_same = append-nil (texts_given calls) in
+    record {
+      account = w.account;
+      ledger = w.ledger;
+      made = subst (λ (t : List (ℕ × List ℕ)). Made t (w.account.handed ++ w.account.earlier) new.assembler) texts_same w.made;
+      counted = again (NextCall now None) calls (texts_given calls) (w.account.handed ++ w.account.earlier) new.counts (length calls + 1) (omega arith) refl refl refl refl
+          (subst (λ (t : List (ℕ × List ℕ)). Counted (length calls + 1) calls t (w.account.handed ++ w.account.earlier) new.counts) texts_same w.counted);
+    }
+call_whole (NextCall now (Some unit)) calls s new it whole =
+    let w = next_whole (kept_packets calls) (list_any may_drop calls) (call_count ends_stream calls) (texts_given calls) (length calls) calls (kept_few calls) (texts_few calls) now s new (Some unit) it whole in
+    record {
+      account = w.account;
+      ledger = w.ledger;
+      made = w.made;
+      counted = again (NextCall now (Some unit)) calls (texts_given calls ++ (unit.timestamp, unit.bytes) ∷ []) (w.account.handed ++ w.account.earlier) new.counts (length calls + 1) (omega arith) refl refl refl refl w.counted;
+    }
+call_whole FinishCall calls s new it whole =
+    let w = end_whole (kept_packets calls) (list_any may_drop calls) (call_count ends_stream calls) (texts_given calls) (length calls) calls (kept_few calls) (texts_few calls) s whole in
+    subst (WholeOf (FinishCall ∷ calls)) (sym it) (record {
+      account = w.account;
+      ledger = w.ledger;
+      made = w.made;
+      counted = again FinishCall calls (texts_given calls) (w.account.handed ++ w.account.earlier) s.counts (length calls) (omega arith) refl refl refl refl w.counted;
+    })
+call_whole RestartCall calls s new it whole =
+    let w = restart_whole (kept_packets calls) (list_any may_drop calls) (call_count ends_stream calls) (texts_given calls) (length calls) calls (kept_few calls) (texts_few calls) s whole in
+    subst (WholeOf (RestartCall ∷ calls)) (sym it) (record {
+      account = w.account;
+      ledger = w.ledger;
+      made = w.made;
+      counted = again RestartCall calls (texts_given calls) (w.account.handed ++ w.account.earlier) s.counts (length calls) (omega arith) refl refl refl refl w.counted;
+    })
+call_whole (SettingsCall config) calls s new it whole =
+    let w = settings_whole (kept_packets calls) (list_any may_drop calls) (call_count ends_stream calls) (texts_given calls) (length calls) calls (kept_few calls) (texts_few calls) config s whole in
+    subst (WholeOf (SettingsCall config ∷ calls)) (sym it) (record {
+      account = w.account;
+      ledger = w.ledger;
+      made = w.made;
+      counted = again (SettingsCall config) calls (texts_given calls) (w.account.handed ++ w.account.earlier) s.counts (length calls) (omega arith) refl refl refl refl w.counted;
+    })
+call_whole (LackCall now) calls s new it whole =
+    let w = lack_whole (kept_packets calls) (list_any may_drop calls) (call_count ends_stream calls) (texts_given calls) (length calls) calls (kept_few calls) (texts_few calls) now s new it whole in
+    record {
+      account = w.account;
+      ledger = w.ledger;
+      made = w.made;
+      counted = again (LackCall now) calls (texts_given calls) (w.account.handed ++ w.account.earlier) new.counts (length calls) (omega arith) refl refl refl refl w.counted;
+    }
+call_whole (BeginCall number) calls s new it whole =
+    let begun = begin_whole (kept_packets calls) (list_any may_drop calls) (call_count ends_stream calls) (texts_given calls) (length calls) calls (kept_few calls) (texts_few calls) number s it.0 whole in
+    let w = subst (Whole (kept_packets calls) (list_any may_drop calls) (call_count ends_stream calls) (texts_given calls) (length calls) calls) (sym it.1) begun in
+    record {
+      account = w.account;
+      ledger = w.ledger;
+      made = w.made;
+      counted = again (BeginCall number) calls (texts_given calls) (w.account.handed ++ w.account.earlier) new.counts (length calls) (omega arith) refl refl refl refl w.counted;
+    }
 
 calls_whole : (config : AccessUnitConfig) (state : DepacketizerState) (calls : List ReceiverCall) (s : Reception) → AreReceiverCalls (fresh_reception config state) calls s → WholeOf calls s
 calls_whole config state calls s no_call = record {
   account = no_account;
   made = record { gone = []; made = new_assembler state; texts_are = refl };
+  counted = λ lt. record { twice = refl; stray = refl; anew = refl; units = refl; handed = refl };
   ledger = record { exact = IsPermutation-refl []; quiet = λ e. refl; turn = tt; before = no_stream; few = omega arith; due = tt; waits = refl; numbered = tt };
 }
 calls_whole config state calls s (one_call {call = call} {before = before} {t = t} others it) = call_whole call before t s it (calls_whole config state before t others)
@@ -867,6 +1174,7 @@ calls_accounted config state calls s are =
     record {
       account = whole.account;
       given = record { gone = whole.made.gone; made = whole.made.made; texts = whole.made.texts_are };
+      counts = λ lt. let it = whole.counted lt in record { twice = it.twice; stray = it.stray; anew = it.anew; units = it.units; handed = it.handed };
       each = record { exact = l.exact; none_dropped = l.quiet };
       order = record { turn = l.turn; before = l.before; few = let few = l.few in omega (arith, few); due = l.due; waits = l.waits };
     }

@@ -1,6 +1,6 @@
 -- What becomes of the packets that are given to a receiver, by the whole list of calls (RFC 3550, 5.1,
 -- A.1; ours).
-use Rattle.std.specs.Prelude.{◌≡◌, ℕ, ◌+◌, ◌≤◌, ◌<◌, ◌^◌, Bool, true, false, if◌then◌else◌, List, [], ◌∷◌, ◌++◌, Option, Some, None, Result, Err, IsPermutation}
+use Rattle.std.specs.Prelude.{◌≡◌, ℕ, ◌+◌, ◌≤◌, ◌<◌, ◌^◌, Bool, true, false, if◌then◌else◌, List, [], ◌∷◌, ◌++◌, length, Option, Some, None, Result, Err, IsPermutation}
 use Rattle.std.specs.List.{list_any}
 use Rattle.h26x_core.specs.declared.error.PacketError.{PacketError}
 use Rattle.h26x_core.specs.declared.error.PacketError.TheVariants.{OutOfMemory}
@@ -11,10 +11,12 @@ use Rattle.h26x_core.specs.Sequence.{next_sequence_number, distance_ahead}
 use Rattle.h26x_reorder.specs.Rtp.{RtpBody}
 use Rattle.h26x_reorder.specs.ReorderBuffer.{IsHeldInOrder}
 use Rattle.h26x_access_units.specs.declared.config.AccessUnitConfig.{AccessUnitConfig}
+use Rattle.h26x_access_units.specs.declared.counts.Counts.{Counts}
 use Rattle.h26x_access_units.specs.declared.framing.Framing.{Framing}
 use Rattle.h26x_access_units.specs.declared.pushed.Pushed.{Pushed}
 use Rattle.h26x_access_units.specs.declared.pushed.Pushed.TheVariants as pushes
 use Rattle.h26x_access_units.specs.declared.pushed.NotPushedReason.{NotPushedReason}
+use Rattle.h26x_access_units.specs.declared.pushed.NotPushedReason.TheVariants as reasons
 use Rattle.h26x_access_units.specs.Numbers.{bears_nothing}
 use Rattle.h26x_access_units.specs.Pushed.{is_kept, IsNotPushedReason}
 use Rattle.h26x_access_units.specs.ReceivedAccessUnit.{ReceivedAccessUnitValue}
@@ -72,11 +74,31 @@ ends_stream FinishCall = true
 ends_stream RestartCall = true
 ends_stream call = false
 
--- how many do
-abbrev pub ended_streams : List ReceiverCall → ℕ
-ended_streams [] = 0
-ended_streams (call ∷ before) =
-    if ends_stream call then ended_streams before + 1 else ended_streams before
+-- whether a call tells that a packet came twice, that it waits alone, that the stream begins anew with
+-- it, or that it is late
+abbrev pub tells_twice : ReceiverCall → Bool
+tells_twice (PushCall now p pushes.Twice) = true
+tells_twice (BackCall p reasons.Twice) = true
+tells_twice call = false
+
+abbrev pub tells_stray : ReceiverCall → Bool
+tells_stray (PushCall now p pushes.Stray) = true
+tells_stray call = false
+
+abbrev pub tells_anew : ReceiverCall → Bool
+tells_anew (PushCall now p pushes.Anew) = true
+tells_anew call = false
+
+abbrev pub tells_late : ReceiverCall → Bool
+tells_late (PushCall now p (pushes.Late n)) = true
+tells_late (BackCall p (reasons.Late n)) = true
+tells_late call = false
+
+-- how many calls do
+abbrev pub call_count : (ReceiverCall → Bool) → List ReceiverCall → ℕ
+call_count test [] = 0
+call_count test (call ∷ before) =
+    if test call then call_count test before + 1 else call_count test before
 
 -- What became of the packets that were kept, the last one first: those of the stream that were handed
 -- to the assembler of access units, those of so many streams before, and those that were dropped.
@@ -126,7 +148,7 @@ IsDueBehind due (p ∷ before) = due ≡ Some (next_sequence_number p.0)
 pub record AreHandedInOrder (calls : List ReceiverCall) (s : Reception) (a : Account) : Type 0 where
   pub turn : AreInTurnBack a.handed
   pub before : AreStreams a.streams a.earlier
-  pub few : a.streams ≤ ended_streams calls
+  pub few : a.streams ≤ call_count ends_stream calls
   pub due : IsDueBehind s.waiting.buffer.due a.handed
   pub waits : IsHeldInOrder s.waiting.buffer.due s.waiting.buffer.held
 
@@ -174,9 +196,21 @@ pub record AreGivenAssembled (calls : List ReceiverCall) (s : Reception) (a : Ac
       (record s.assembler { ended = gone ++ s.assembler.ended })
   pub texts : texts_given calls ≡ texts_of gone
 
--- all of this
+-- The counts are exact: of packets that came twice, or waited alone, of streams that began anew, and of
+-- access units that were given out; and each packet that was handed on is counted once, as one that was
+-- taken, skipped or refused, that bears no unit, or that is late, with those that were told late.
+pub record AreCountsExact (calls : List ReceiverCall) (c : Counts) (a : Account) : Type 0 where
+  pub twice : c.twice ≡ call_count tells_twice calls
+  pub stray : c.stray ≡ call_count tells_stray calls
+  pub anew : c.anew ≡ call_count tells_anew calls
+  pub units : c.units ≡ length (texts_given calls)
+  pub handed : c.taken + c.skipped + c.refused + c.no_unit + c.late
+      ≡ length (a.handed ++ a.earlier) + call_count tells_late calls
+
+-- all of this; the counts where fewer calls were made than they go to
 pub record IsAccounted (calls : List ReceiverCall) (s : Reception) : Type 0 where
   pub account : Account
   pub each : IsEachAccounted calls s account
   pub order : AreHandedInOrder calls s account
   pub given : AreGivenAssembled calls s account
+  pub counts : length calls < 2 ^ 64 → AreCountsExact calls s.counts account

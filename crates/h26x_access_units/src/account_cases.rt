@@ -8,7 +8,7 @@ ghost use Rattle.h26x_access_units.specs.declared.config.AccessUnitConfig.{Acces
 ghost use Rattle.h26x_assembler.specs.AccessUnit.{empty_unit, none_open, open_assembly, after_unit_skip};
 ghost use Rattle.h26x_access_units.specs.ReceivedAccessUnit.{ReceivedAccessUnitValue};
 ghost use Rattle.h26x_access_units.specs.Reception.{marker_forgotten, fresh_reception, after_reception, ended_reception, restarted};
-ghost use Rattle.h26x_access_units.specs.Account.{PushCall, BackCall, NextCall, FinishCall, RestartCall, BeginCall, AreReceiverCalls, IsAssemblerOf, texts_given, texts_of, kept_packets, may_drop, ended_streams, packet_alone, AreInTurnBack, AreStreams, IsDueBehind, IsAccounted};
+ghost use Rattle.h26x_access_units.specs.Account.{PushCall, BackCall, NextCall, FinishCall, RestartCall, BeginCall, AreReceiverCalls, IsAssemblerOf, texts_given, texts_of, kept_packets, may_drop, ends_stream, tells_twice, tells_stray, tells_anew, tells_late, call_count, packet_alone, AreInTurnBack, AreStreams, IsDueBehind, IsAccounted};
 
 use crate::pushed::{NotPushedReason, Pushed};
 
@@ -39,10 +39,26 @@ pub fn packets_that_may_be_dropped()
 
 /// A stream ends where it begins anew, by `finish` and by `restart`, and by no other call.
 pub fn streams_that_end()
-    ensures all { let b = rtp_body 0 false [] in ended_streams (PushCall 0 (7, b) Pushed.Anew
+    ensures all { let b = rtp_body 0 false [] in call_count ends_stream (PushCall 0 (7, b) Pushed.Anew
         ∷ FinishCall ∷ PushCall 0 (7, b) Pushed.Held ∷ RestartCall ∷ PushCall 0 (7, b) Pushed.Stray
         ∷ PushCall 0 (7, b) Pushed.Jumped ∷ BeginCall 7 ∷ NextCall 0 None ∷ []) ≡ 3 }
-    ensures none { ended_streams [] ≡ 0 }
+    ensures none { call_count ends_stream [] ≡ 0 }
+{}
+
+/// Calls are counted by what they tell, also where a packet comes back.
+pub fn calls_that_tell()
+    ensures twice { let b = rtp_body 0 false [] in
+        call_count tells_twice (PushCall 0 (7, b) Pushed.Twice
+        ∷ BackCall (7, b) NotPushedReason.Twice ∷ PushCall 0 (6, b) (Pushed.Late 1) ∷ []) ≡ 2 }
+    ensures late { let b = rtp_body 0 false [] in
+        call_count tells_late (PushCall 0 (7, b) Pushed.Twice ∷ PushCall 0 (6, b) (Pushed.Late 1)
+        ∷ BackCall (6, b) (NotPushedReason.Late 1) ∷ BackCall (7, b) NotPushedReason.Full ∷ []) ≡ 2 }
+    ensures stray { let b = rtp_body 0 false [] in
+        call_count tells_stray (PushCall 0 (7, b) Pushed.Stray ∷ PushCall 0 (8, b) Pushed.Anew
+        ∷ PushCall 0 (9, b) Pushed.Jumped ∷ []) ≡ 1 }
+    ensures anew { let b = rtp_body 0 false [] in
+        call_count tells_anew (PushCall 0 (7, b) Pushed.Stray ∷ PushCall 0 (8, b) Pushed.Anew
+        ∷ RestartCall ∷ []) ≡ 1 }
 {}
 
 /// A packet is in turn behind 5 up to 32773, and where numbers go round.
@@ -69,7 +85,8 @@ pub fn texts_that_are_given()
         texts_given (NextCall 2 (Some second) ∷ NextCall 1 None ∷ NextCall 0 (Some first) ∷ [])
         ≡ (first.timestamp, first.bytes) ∷ (second.timestamp, second.bytes) ∷ [] }
     ensures none { texts_given (FinishCall ∷ []) ≡ [] }
-    ensures bare { texts_of (empty_unit 5 ∷ record (empty_unit 7) { bytes = 1 ∷ [] } ∷ []) ≡ (7, 1 ∷ []) ∷ [] }
+    ensures bare { texts_of (empty_unit 5 ∷ record (empty_unit 7) { bytes = 1 ∷ [] } ∷ [])
+        ≡ (7, 1 ∷ []) ∷ [] }
 {}
 
 /// A number that bears nothing is skipped by a new assembler, and another one is told to it.

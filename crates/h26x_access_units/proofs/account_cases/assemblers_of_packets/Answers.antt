@@ -1,4 +1,4 @@
-use Rattle.std.proofs.Common.{ℕ, false, List, [], ◌∷◌, None, Ok, refl}
+use Rattle.std.proofs.Common.{false, [], None, Ok, refl}
 use Rattle.h26x_receiver.specs.declared.received.Received.TheVariants.{InOrder}
 use Rattle.h26x_reorder.specs.Rtp.{rtp_body}
 use Rattle.h26x_assembler.specs.AccessUnit.{none_open, open_assembly}
