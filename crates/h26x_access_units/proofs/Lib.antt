@@ -13,3 +13,4 @@ pub mod NackLemmas
 pub mod NackOrderLemmas
 pub mod DecodableLemmas
 pub mod GivenLemmas
+pub mod AccountLemmas

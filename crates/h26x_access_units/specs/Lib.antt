@@ -13,6 +13,7 @@ pub mod Decoder
 pub mod ReceivedAccessUnit
 pub mod Reception
 pub mod Decodable
+pub mod Account
 pub mod Missing
 pub mod Nacks
 pub mod Limits

@@ -10,6 +10,7 @@ ghost use Rattle.h26x_access_units.specs.Missing.{missing_numbers, AreExactlyMis
 ghost use Rattle.h26x_access_units.specs.ReceivedAccessUnit.{ReceivedAccessUnitValue};
 ghost use Rattle.h26x_access_units.specs.Reception.{Reception, fresh_reception, begun_reception, restarted, with_settings, ended_reception, reception_answer, after_reception, IsPushed, IsNext};
 ghost use Rattle.h26x_access_units.specs.Decodable.{GivenUnit, IsCleanWhereDecodable, WereGiven, IsGivenBehind};
+ghost use Rattle.h26x_access_units.specs.Account.{ReceiverCall, AreReceiverCalls, IsAccounted};
 ghost use Rattle.h26x_access_units.specs.Passed.{is_told_taken, AreNumbers, AreSoonBehind};
 ghost use Rattle.h26x_access_units.specs.declared.nacks.Nack.{Nack};
 ghost use Rattle.h26x_access_units.specs.Nacks.{nacks_now, nack_among, AreNumbersInOrder};
@@ -99,4 +100,16 @@ pub fn what_was_asked_for_stays_known()
 pub fn frame_numbers_tell_of_lost_pictures()
     ensures { (most key last missing : ℕ) (pictures : List SentPicture) →
         IsToldWithoutLoss most key last missing pictures }
+{}
+
+/// Whatever packets come, and whatever calls are made: each packet that was kept, that is not told
+/// `Late`, `Twice` or `Full`, was handed to the assembler of access units, waits, or was dropped, and
+/// none twice; none is dropped where none was told `Stray`, and `restart` wasn't called. Those of each
+/// stream are handed on in the order of their numbers. What is given out are the access units with
+/// bytes that the assembler brings of the packets that were handed on to it, each once, in its order.
+/// Where fewer than 2^64 calls were made the counts of both, and of what was told, are exact.
+pub fn packets_are_accounted_for()
+    ensures { (config : AccessUnitConfig) (state : DepacketizerState) (calls : List ReceiverCall)
+        (s : Reception) → AreReceiverCalls (fresh_reception config state) calls s →
+        IsAccounted calls s }
 {}

@@ -3,6 +3,7 @@
 //! and a limit on bytes before an assembler.
 #![tactic(auto)]
 
+mod account_cases;
 mod arrival;
 mod bits;
 mod cases;

@@ -1,0 +1,1180 @@
+-- What became of the packets that were given to a receiver.
+use Rattle.std.proofs.Common.{◌≡◌, ◌∙◌, ap, sym, subst, refl, ℕ, ◌+◌, ◌≤◌, ◌<◌, Bool, true, false, cond, List, [], ◌∷◌, ◌++◌, length, Option, Some, None, append_assoc, arith, inl, inr, Result, Ok, Err}
+use Rattle.std.specs.Prelude.{◌==◌, ◌||◌, ◌&&◌, nat_lt, slice_get, MatchBool, IsPermutation, ◌⊎◌, not, if◌then◌else◌}
+use Rattle.std.specs.List.{list_any}
+use Rattle.std.proofs.lemmas.List.{append-nil, length-append}
+use Rattle.std.proofs.lemmas.List.Sorted.{IsPermutation-refl, IsPermutation-sym, IsPermutation-cons, IsPermutation-trans, IsPermutation-to_front, IsPermutation-append_left, IsPermutation-append_right, IsPermutation-append_comm, IsPermutation-middle, length_permutation}
+use Rattle.std.proofs.lemmas.Bool.Decides.{nat_tests}
+use Rattle.h26x_core.specs.Sequence.{next_sequence_number, distance_ahead, is_late, missing_count}
+use Rattle.h26x_model.specs.Receive.DepacketizerState.{DepacketizerState}
+use Rattle.h26x_reorder.specs.Rtp.{RtpBody}
+use Rattle.h26x_reorder.specs.ReorderBuffer.{BufferState, buffer_state, due_at, put_packet, is_number_held, push_answer, after_push, may_go, last_number, first_ready, without_first, are_beyond, begun_at, IsHeldInOrder, AreHeldInOrder}
+use Rattle.h26x_reorder.specs.declared.pushed.Pushed as buffers
+use Rattle.h26x_reorder.specs.declared.pushed.Pushed.TheVariants as buffered
+use Rattle.h26x_reorder.proofs.BufferLemmas.{order_at, put_in_order, put_held, rest_in_order}
+use Rattle.h26x_assembler.specs.AccessUnit.{AccessUnitValue, Assembly, open_assembly, none_open, given_out, ended_by, after_taken_rtp, with_unit_within, after_rtp, behind_missing, after_unit_skip, after_pass_over, after_ending, after_finishing, is_run_closed, whole_if, unit_with, taken_by, is_text_given_up}
+use Rattle.h26x_access_units.specs.declared.config.AccessUnitConfig.{AccessUnitConfig}
+use Rattle.h26x_access_units.specs.declared.pushed.Pushed.{Pushed}
+use Rattle.h26x_access_units.specs.declared.pushed.Pushed.TheVariants as pushes
+use Rattle.h26x_access_units.specs.declared.way.Way.{Way}
+use Rattle.h26x_access_units.specs.declared.way.Way.TheVariants as ways
+use Rattle.h26x_access_units.specs.Numbers.{bears_nothing, first_ended}
+use Rattle.h26x_access_units.specs.Pushed.{as_pushed}
+use Rattle.h26x_access_units.specs.JitterBuffer.{JitterState, fresh_jitter, may_tell_first, with_held_limit, is_pressed, is_full, jitter_answer, after_jitter, with_packet, with_two, has_room_for, due_packet, without_due}
+use Rattle.h26x_access_units.specs.ReceivedAccessUnit.{ReceivedAccessUnitValue, whole_with}
+use Rattle.h26x_access_units.specs.Reception.{Reception, fresh_reception, begun_reception, restarted, is_behind_stray, is_near_stray, answer_on, way_of, reception_answer, pushed_to, anew_of, held_with, after_reception, is_taken_at_once, is_behind_missing, IsDueTaken, IsEndedBefore, ended_behind_missing, ended_by_content, IsPushed, NoneIsDueUnlessEnded, IsDrained, none, bare, more, behind, IsDrainedInPart, bare_passed, without_bare, without_bare_of, ended_if_anew, ended_if_over, ended_reception, after_finish, has_no_unit, without_given, without_given_of, with_settings, IsNext, begun_for, believed, framing_at, ends_with, after_no_unit, is_no_unit, assembly_after, marker_forgotten, unit_given, unit_given_of, has_bare, IsAnswerTo, is_one_taken, begins_still, counts_answered, believed_packet, after_due}
+use Rattle.h26x_core.specs.declared.error.PacketError.{PacketError}
+use Rattle.h26x_receiver.specs.declared.received.Received.{Received}
+use Rattle.h26x_receiver.specs.declared.received.Received.TheVariants as received
+use Rattle.h26x_receiver.specs.Sequenced.{is_run_kept, expected_after_skip, after_taken_packet, skip_answer}
+use Rattle.h26x_core.specs.declared.error.PacketError.TheVariants.{OutOfMemory}
+use Rattle.h26x_access_units.specs.declared.framing.Framing.{Framing}
+use Rattle.h26x_access_units.specs.declared.counts.Counts.{Counts}
+use Rattle.h26x_access_units.specs.Counts.{counted_push, counted_reason, counted_dropped, counted_skip, counted_answer, counted_no_unit, counted_framing, counted_due, counted_unit}
+use Rattle.h26x_access_units.specs.declared.pushed.NotPushedReason.{NotPushedReason}
+use Rattle.h26x_access_units.specs.declared.pushed.NotPushedReason.TheVariants as reasons
+use Rattle.h26x_access_units.specs.Account.{ReceiverCall, PushCall, BackCall, NextCall, LackCall, FinishCall, RestartCall, SettingsCall, BeginCall, IsCall, AreReceiverCalls, no_call, one_call, kept_packets, may_drop, Account, no_account, packet_alone, AreInTurnBack, AreStreams, no_stream, one_stream, IsDueBehind, IsAccounted, IsAssemblerOf, new_assembler, one_taken, unit_ended, stream_ended, number_told, rest_dropped, texts_given, texts_of, tells_twice, tells_stray, tells_anew, tells_late, ends_stream, call_count}
+use Rattle.h26x_access_units.proofs.WaitingLemmas.{held_is, first_went}
+
+abbrev Packet : Type 0
+Packet = ℕ × RtpBody
+
+abbrev Packets : Type 0
+Packets = List (ℕ × RtpBody)
+
+-- the first two of packets exchanged
+swapped : (p q : Packet) (a : Packets) → IsPermutation (p ∷ q ∷ a) (q ∷ p ∷ a)
+swapped p q a = IsPermutation-middle (p ∷ []) q a
+
+-- some packets exchanged with others before a third part
+exchanged : (a b c : Packets) → IsPermutation (a ++ (b ++ c)) (b ++ (a ++ c))
+exchanged a b c =
+    subst (λ (l : Packets). IsPermutation l (b ++ (a ++ c))) (append_assoc a b c)
+    (subst (IsPermutation ((a ++ b) ++ c)) (append_assoc b a c)
+    (IsPermutation-append_left c (a ++ b) (b ++ a) (IsPermutation-append_comm a b)))
+
+-- a packet whose number isn't held is put to the others
+put_more : (due : ℕ) (p : Packet) (held : Packets) → is_number_held p.0 held ≡ false → IsPermutation (p ∷ held) (put_packet due p held)
+put_more due p [] none_is = IsPermutation-refl (p ∷ [])
+put_more due p (q ∷ held) none_is =
+    elim (q.0 == p.0) as (λ b. (q.0 == p.0) ≡ b → (b || is_number_held p.0 held) ≡ false → IsPermutation (p ∷ q ∷ held) (put_packet due p (q ∷ held))) [
+      | true ↦ λ same h. absurd (let bad = h in cc)
+      | false ↦ λ other h.
+          let apart : (p.0 == q.0) ≡ false = grind (arith, nat_tests) in
+          let rest = put_more due p held h in
+          let later = IsPermutation-trans (p ∷ q ∷ held) (q ∷ p ∷ held) (q ∷ put_packet due p held) (swapped p q held) (IsPermutation-cons q (p ∷ held) (put_packet due p held) rest) in
+          elim (nat_lt (distance_ahead due p.0) (distance_ahead due q.0)) as (λ b.
+          IsPermutation (p ∷ q ∷ held) (cond b (p ∷ q ∷ held) (cond (p.0 == q.0) (q ∷ held) (q ∷ put_packet due p held)))) [
+            | true ↦ IsPermutation-refl (p ∷ q ∷ held)
+            | false ↦ subst (λ (b : Bool). IsPermutation (p ∷ q ∷ held) (cond b (q ∷ held) (q ∷ put_packet due p held))) (sym apart) later
+          ]
+    ] refl none_is
+
+-- What becomes of packets that come to a buffer: they wait, or are lost; and the number that is due
+-- stays behind those that were handed on.
+record Moves (handed more : Packets) (b new : BufferState RtpBody) : Type 0 where
+  lost : Packets
+  moved : IsPermutation (more ++ b.held) (lost ++ new.held)
+  waits : IsHeldInOrder new.due new.held
+  due : IsDueBehind new.due handed
+
+-- the number that is due, where one was
+due_stays : (window number : ℕ) (due : Option ℕ) (handed : Packets) → IsDueBehind due handed → IsDueBehind (Some (due_at window due number)) handed
+due_stays window number due [] is = tt
+due_stays window number due (p ∷ handed) is = subst (λ (d : Option ℕ). Some (due_at window d number) ≡ Some (next_sequence_number p.0)) (sym is) refl
+
+-- a packet comes
+module _ (handed : Packets) (b : BufferState RtpBody) (p : Packet) (small : p.0 < 65536) (waits : IsHeldInOrder b.due b.held) (due : IsDueBehind b.due handed) where
+  abbrev d : ℕ
+  d = due_at b.window b.due p.0
+
+  pushed_by : (l t : Bool) → is_late (Some d) p.0 ≡ l → is_number_held p.0 b.held ≡ t → Moves handed (p ∷ []) b (cond l b (buffer_state b.window (Some d) (put_packet d p b.held)))
+  pushed_by true t late held = record { lost = p ∷ []; moved = IsPermutation-refl (p ∷ b.held); waits = waits; due = due }
+  pushed_by false true late held =
+      let from = order_at b.window b.due p.0 b.held waits in
+      let near : distance_ahead d p.0 < 32768 = grind (arith, nat_tests) in
+      record {
+        lost = p ∷ [];
+        moved = subst (λ (l : Packets). IsPermutation (p ∷ b.held) (p ∷ l)) (sym (put_held d 0 p b.held from.1 held)) (IsPermutation-refl (p ∷ b.held));
+        waits = (from.0, put_in_order d 0 p b.held from.0 small (omega arith) near from.1);
+        due = due_stays b.window p.0 b.due handed due;
+      }
+  pushed_by false false late held =
+      let from = order_at b.window b.due p.0 b.held waits in
+      let near : distance_ahead d p.0 < 32768 = grind (arith, nat_tests) in
+      record {
+        lost = [];
+        moved = put_more d p b.held held;
+        waits = (from.0, put_in_order d 0 p b.held from.0 small (omega arith) near from.1);
+        due = due_stays b.window p.0 b.due handed due;
+      }
+
+  pushed : Moves handed (p ∷ []) b (after_push b p)
+  pushed = pushed_by (is_late (Some d) p.0) (is_number_held p.0 b.held) refl refl
+
+  -- where it is told to be held it isn't lost
+  held_by : (l t : Bool) (late : is_late (Some d) p.0 ≡ l) (held : is_number_held p.0 b.held ≡ t) → push_answer b p.0 ≡ buffered.Held → (pushed_by l t late held).lost ≡ []
+  unfolding pushed_by
+  held_by true t late held is = absurd (let early = (held_is b p.0 is).0 in cc)
+  held_by false true late held is = absurd (let apart = (held_is b p.0 is).1 in cc)
+  held_by false false late held is = refl
+
+  pushed_held : push_answer b p.0 ≡ buffered.Held → pushed.lost ≡ []
+  unfolding pushed
+  pushed_held = held_by (is_late (Some d) p.0) (is_number_held p.0 b.held) refl refl
+
+-- one after the other
+both_move : (handed : Packets) (p q : Packet) (b one two : BufferState RtpBody) → Moves handed (q ∷ []) b one → Moves handed (p ∷ []) one two → Moves handed (p ∷ q ∷ []) b two
+both_move handed p q b one two first second = record {
+  lost = first.lost ++ second.lost;
+  moved =
+      subst (IsPermutation (p ∷ q ∷ b.held)) (sym (append_assoc first.lost second.lost two.held))
+      (IsPermutation-trans (p ∷ q ∷ b.held) (p ∷ (first.lost ++ one.held)) (first.lost ++ (second.lost ++ two.held))
+      (IsPermutation-cons p (q ∷ b.held) (first.lost ++ one.held) first.moved)
+      (IsPermutation-trans (p ∷ (first.lost ++ one.held)) (first.lost ++ (p ∷ one.held)) (first.lost ++ (second.lost ++ two.held))
+      (IsPermutation-sym (first.lost ++ (p ∷ one.held)) (p ∷ (first.lost ++ one.held)) (IsPermutation-middle first.lost p one.held))
+      (IsPermutation-append_right first.lost (p ∷ one.held) (second.lost ++ two.held) second.moved)));
+  waits = second.waits;
+  due = second.due;
+}
+
+-- in either order
+other_order : (handed : Packets) (p q : Packet) (b new : BufferState RtpBody) → Moves handed (q ∷ p ∷ []) b new → Moves handed (p ∷ q ∷ []) b new
+other_order handed p q b new it = record {
+  lost = it.lost;
+  moved = IsPermutation-trans (p ∷ q ∷ b.held) (q ∷ p ∷ b.held) (it.lost ++ new.held) (swapped p q b.held) it.moved;
+  waits = it.waits;
+  due = it.due;
+}
+
+-- another is lost
+one_lost : (handed : Packets) (p q : Packet) (b new : BufferState RtpBody) → Moves handed (p ∷ []) b new → Moves handed (p ∷ q ∷ []) b new
+one_lost handed p q b new it = other_order handed p q b new (record {
+  lost = q ∷ it.lost;
+  moved = IsPermutation-cons q (p ∷ b.held) (it.lost ++ new.held) it.moved;
+  waits = it.waits;
+  due = it.due;
+})
+
+-- a packet has a number of two bytes
+abbrev IsNumbered : Option Packet → Type 0
+IsNumbered None = Unit {0}
+IsNumbered (Some p) = p.0 < 65536
+
+-- so of what waits, by any answer
+module _ (handed : Packets) (now : ℕ) where
+  answered_moves : (j : JitterState) (p : Packet) (answer : Pushed) → p.0 < 65536 → IsHeldInOrder j.buffer.due j.buffer.held → IsDueBehind j.buffer.due handed → Moves handed (p ∷ []) j.buffer (after_jitter now j p answer).buffer
+  answered_moves j p pushes.Held small waits due = pushed handed j.buffer p small waits due
+  answered_moves j p (pushes.Late n) small waits due = record { lost = p ∷ []; moved = IsPermutation-refl (p ∷ j.buffer.held); waits = waits; due = due }
+  answered_moves j p pushes.Twice small waits due = record { lost = p ∷ []; moved = IsPermutation-refl (p ∷ j.buffer.held); waits = waits; due = due }
+  answered_moves j p pushes.Stray small waits due = record { lost = p ∷ []; moved = IsPermutation-refl (p ∷ j.buffer.held); waits = waits; due = due }
+  answered_moves j p pushes.Anew small waits due = record { lost = p ∷ []; moved = IsPermutation-refl (p ∷ j.buffer.held); waits = waits; due = due }
+  answered_moves j p pushes.Jumped small waits due = record { lost = p ∷ []; moved = IsPermutation-refl (p ∷ j.buffer.held); waits = waits; due = due }
+  answered_moves j p pushes.Full small waits due = record { lost = p ∷ []; moved = IsPermutation-refl (p ∷ j.buffer.held); waits = waits; due = due }
+
+  two_move : (j : JitterState) (p q : Packet) → p.0 < 65536 → q.0 < 65536 → IsHeldInOrder j.buffer.due j.buffer.held → IsDueBehind j.buffer.due handed → Moves handed (p ∷ q ∷ []) j.buffer (with_two now j q p).buffer
+  two_move j p q small alone waits due =
+      let one = after_push j.buffer q in
+      let first = pushed handed j.buffer q alone waits due in
+      both_move handed p q j.buffer one (after_push one p) first (pushed handed one p small first.waits first.due)
+
+  joined_moves : (j : JitterState) (stray : Option Packet) (p : Packet) → p.0 < 65536 → IsNumbered stray → IsHeldInOrder j.buffer.due j.buffer.held → IsDueBehind j.buffer.due handed → Moves handed (p ∷ packet_alone stray) j.buffer (held_with now j stray p).buffer
+  joined_moves j None p small alone waits due = pushed handed j.buffer p small waits due
+  joined_moves j (Some q) p small alone waits due =
+      elim (has_room_for j q && are_beyond j.buffer q.0 p.0) as (λ a. Moves handed (p ∷ q ∷ []) j.buffer (cond a (with_two now j q p) (cond (has_room_for j q && are_beyond j.buffer p.0 q.0) (with_two now j p q) (with_packet now j p))).buffer) [
+        | true ↦ two_move j p q small alone waits due
+        | false ↦ elim (has_room_for j q && are_beyond j.buffer p.0 q.0) as (λ a. Moves handed (p ∷ q ∷ []) j.buffer (cond a (with_two now j p q) (with_packet now j p)).buffer) [
+          | true ↦ other_order handed p q j.buffer (with_two now j p q).buffer (two_move j q p alone small waits due)
+          | false ↦ one_lost handed p q j.buffer (after_push j.buffer p) (pushed handed j.buffer p small waits due)
+        ]
+      ]
+
+  joined_over : (j : JitterState) (stray : Option Packet) (p : Packet) → (held_with now j stray p).is_over ≡ j.is_over
+  joined_over j None p = refl
+  joined_over j (Some q) p =
+      elim (has_room_for j q && are_beyond j.buffer q.0 p.0) as (λ a. (cond a (with_two now j q p) (cond (has_room_for j q && are_beyond j.buffer p.0 q.0) (with_two now j p q) (with_packet now j p))).is_over ≡ j.is_over) [
+        | true ↦ refl
+        | false ↦ elim (has_room_for j q && are_beyond j.buffer p.0 q.0) as (λ a. (cond a (with_two now j p q) (with_packet now j p)).is_over ≡ j.is_over) [ true ↦ refl | false ↦ refl ]
+      ]
+
+answered_over : (now : ℕ) (j : JitterState) (p : Packet) (answer : Pushed) → (after_jitter now j p answer).is_over ≡ j.is_over
+answered_over now j p pushes.Held = refl
+answered_over now j p (pushes.Late n) = refl
+answered_over now j p pushes.Twice = refl
+answered_over now j p pushes.Stray = refl
+answered_over now j p pushes.Anew = refl
+answered_over now j p pushes.Jumped = refl
+answered_over now j p pushes.Full = refl
+
+-- of a stream that begins anew the packet that waited alone and the next one come to none
+record Begins (more : Packets) (new : JitterState) : Type 0 where
+  lost : Packets
+  moved : IsPermutation more (lost ++ new.buffer.held)
+  waits : IsHeldInOrder new.buffer.due new.buffer.held
+  over : new.is_over ≡ false
+
+anew_moves : (now : ℕ) (config : AccessUnitConfig) (stray : Option Packet) (p : Packet) → p.0 < 65536 → IsNumbered stray → Begins (p ∷ packet_alone stray) (anew_of now config stray p)
+anew_moves now config None p small alone =
+    let fresh = fresh_jitter config in
+    let it = answered_moves [] now fresh p (jitter_answer fresh p) small refl tt in
+    record { lost = it.lost; moved = it.moved; waits = it.waits; over = answered_over now fresh p (jitter_answer fresh p) }
+anew_moves now config (Some q) p small alone =
+    let fresh = fresh_jitter (with_held_limit 18446744073709551615 config) in
+    let first = answered_moves [] now fresh q (jitter_answer fresh q) alone refl tt in
+    let one = pushed_to now fresh q in
+    let second = answered_moves [] now one p (jitter_answer one p) small first.waits tt in
+    let two = pushed_to now one p in
+    let both = both_move [] p q fresh.buffer one.buffer two.buffer first second in
+    record { lost = both.lost; moved = both.moved; waits = both.waits; over = answered_over now one p (jitter_answer one p) ∙ answered_over now fresh q (jitter_answer fresh q) }
+
+-- what is known of the packets that were kept, where these were, whether some may be dropped, and how
+-- many streams may have ended
+record Ledger (kept : Packets) (drops : Bool) (most : ℕ) (a : Account) (j : JitterState) (stray : Option Packet) : Type 0 where
+  exact : IsPermutation kept ((a.dropped ++ packet_alone stray) ++ ((a.handed ++ a.earlier) ++ j.buffer.held))
+  quiet : drops ≡ false → a.dropped ++ packet_alone stray ≡ []
+  turn : AreInTurnBack a.handed
+  before : AreStreams a.streams a.earlier
+  few : a.streams + cond j.is_over 1 0 ≤ most
+  due : IsDueBehind j.buffer.due a.handed
+  waits : IsHeldInOrder j.buffer.due j.buffer.held
+  numbered : IsNumbered stray
+
+-- the packets of a list of parts
+module _ (kept x s h w : Packets) (exact : IsPermutation kept ((x ++ s) ++ (h ++ w))) where
+  parts_put : (p : Packet) (new : Packets) → IsPermutation (p ∷ w) new → IsPermutation (p ∷ kept) ((x ++ s) ++ (h ++ new))
+  parts_put p new put =
+      IsPermutation-trans (p ∷ kept) (p ∷ ((x ++ s) ++ (h ++ w))) ((x ++ s) ++ (h ++ new))
+      (IsPermutation-cons p kept ((x ++ s) ++ (h ++ w)) exact)
+      (IsPermutation-trans (p ∷ ((x ++ s) ++ (h ++ w))) ((x ++ s) ++ (p ∷ (h ++ w))) ((x ++ s) ++ (h ++ new))
+      (IsPermutation-sym ((x ++ s) ++ (p ∷ (h ++ w))) (p ∷ ((x ++ s) ++ (h ++ w))) (IsPermutation-middle (x ++ s) p (h ++ w)))
+      (IsPermutation-append_right (x ++ s) (p ∷ (h ++ w)) (h ++ new)
+      (IsPermutation-trans (p ∷ (h ++ w)) (h ++ (p ∷ w)) (h ++ new)
+      (IsPermutation-sym (h ++ (p ∷ w)) (p ∷ (h ++ w)) (IsPermutation-middle h p w))
+      (IsPermutation-append_right h (p ∷ w) new put))))
+
+  parts_alone : (p : Packet) → IsPermutation (p ∷ kept) (((x ++ s) ++ (p ∷ [])) ++ (h ++ w))
+  parts_alone p =
+      IsPermutation-trans (p ∷ kept) (p ∷ ((x ++ s) ++ (h ++ w))) (((x ++ s) ++ (p ∷ [])) ++ (h ++ w))
+      (IsPermutation-cons p kept ((x ++ s) ++ (h ++ w)) exact)
+      (IsPermutation-append_left (h ++ w) (p ∷ (x ++ s)) ((x ++ s) ++ (p ∷ []))
+      (IsPermutation-sym ((x ++ s) ++ (p ∷ [])) (p ∷ (x ++ s)) (IsPermutation-to_front (x ++ s) p)))
+
+  -- what waits, the packet alone and one more are dealt anew
+  parts_dealt : (p : Packet) (lost new : Packets) → IsPermutation (p ∷ (s ++ w)) (lost ++ new) → IsPermutation (p ∷ kept) (((x ++ lost) ++ []) ++ (h ++ new))
+  parts_dealt p lost new dealt =
+      let a = x ++ (s ++ (h ++ w)) in
+      let b = x ++ (h ++ (s ++ w)) in
+      let c = x ++ (h ++ (lost ++ new)) in
+      let e = x ++ (lost ++ (h ++ new)) in
+      subst (λ (l : Packets). IsPermutation (p ∷ kept) (l ++ (h ++ new))) (sym (append-nil (x ++ lost)))
+      (subst (IsPermutation (p ∷ kept)) (sym (append_assoc x lost (h ++ new)))
+      (IsPermutation-trans (p ∷ kept) (p ∷ a) e
+      (IsPermutation-cons p kept a (subst (IsPermutation kept) (append_assoc x s (h ++ w)) exact))
+      (IsPermutation-trans (p ∷ a) (p ∷ b) e
+      (IsPermutation-cons p a b (IsPermutation-append_right x (s ++ (h ++ w)) (h ++ (s ++ w)) (exchanged s h w)))
+      (IsPermutation-trans (p ∷ b) (x ++ (p ∷ (h ++ (s ++ w)))) e
+      (IsPermutation-sym (x ++ (p ∷ (h ++ (s ++ w)))) (p ∷ b) (IsPermutation-middle x p (h ++ (s ++ w))))
+      (IsPermutation-append_right x (p ∷ (h ++ (s ++ w))) (lost ++ (h ++ new))
+      (IsPermutation-trans (p ∷ (h ++ (s ++ w))) (h ++ (p ∷ (s ++ w))) (lost ++ (h ++ new))
+      (IsPermutation-sym (h ++ (p ∷ (s ++ w))) (p ∷ (h ++ (s ++ w))) (IsPermutation-middle h p (s ++ w)))
+      (IsPermutation-trans (h ++ (p ∷ (s ++ w))) (h ++ (lost ++ new)) (lost ++ (h ++ new))
+      (IsPermutation-append_right h (p ∷ (s ++ w)) (lost ++ new) dealt)
+      (exchanged h lost new))))))))
+
+  -- what waits is dropped
+  parts_anew : (p : Packet) (lost new : Packets) → IsPermutation (p ∷ s) (lost ++ new) → IsPermutation (p ∷ kept) (((x ++ (w ++ lost)) ++ []) ++ (h ++ new))
+  parts_anew p lost new dealt = parts_dealt p (w ++ lost) new
+      (subst (IsPermutation (p ∷ (s ++ w))) (sym (append_assoc w lost new))
+      (IsPermutation-trans (p ∷ (s ++ w)) (w ++ (p ∷ s)) (w ++ (lost ++ new))
+      (IsPermutation-append_comm (p ∷ s) w)
+      (IsPermutation-append_right w (p ∷ s) (lost ++ new) dealt)))
+
+  -- all is dropped that isn't handed on
+  parts_dropped : IsPermutation kept ((((x ++ s) ++ w) ++ []) ++ (h ++ []))
+  parts_dropped =
+      let all = (x ++ s) ++ w in
+      subst (λ (l : Packets). IsPermutation kept (l ++ (h ++ []))) (sym (append-nil all))
+      (subst (λ (l : Packets). IsPermutation kept (all ++ l)) (sym (append-nil h))
+      (subst (IsPermutation kept) (sym (append_assoc (x ++ s) w h))
+      (IsPermutation-trans kept ((x ++ s) ++ (h ++ w)) ((x ++ s) ++ (w ++ h)) exact
+      (IsPermutation-append_right (x ++ s) (h ++ w) (w ++ h) (IsPermutation-append_comm h w)))))
+
+-- the first that waits is handed on
+parts_handed : (kept x h w : Packets) (p : Packet) → IsPermutation kept (x ++ (h ++ (p ∷ w))) → IsPermutation kept (x ++ ((p ∷ h) ++ w))
+parts_handed kept x h w p exact = IsPermutation-trans kept (x ++ (h ++ (p ∷ w))) (x ++ ((p ∷ h) ++ w)) exact
+    (IsPermutation-append_right x (h ++ (p ∷ w)) ((p ∷ h) ++ w) (IsPermutation-middle h p w))
+
+-- a packet that is due is the first that waits
+first_is_due : (pressed : Bool) (window : ℕ) (due : Option ℕ) (held : Packets) (p : Packet) → cond pressed (slice_get held 0) (first_ready window due held) ≡ Some p → slice_get held 0 ≡ Some p
+first_is_due true window due held p is = is
+first_is_due false window None [] p is = absurd (let bad = is in cc)
+first_is_due false window (Some due) [] p is = absurd (let bad = is in cc)
+first_is_due false window None (q ∷ held) p is = absurd (let bad = is in cc)
+first_is_due false window (Some due) (q ∷ held) p is = elim (may_go window (last_number q.0 held) due q.0) as (λ b. cond b (Some q) None ≡ Some p → Some q ≡ Some p) [
+  | true ↦ λ e. e
+  | false ↦ λ e. absurd (let bad = e in cc)
+] is
+
+-- it is ahead of the last that was handed on
+one_more_turn : (p : Packet) (rest handed : Packets) (due : Option ℕ) → IsDueBehind due handed → IsHeldInOrder due (p ∷ rest) → AreInTurnBack handed → AreInTurnBack (p ∷ handed)
+one_more_turn p rest [] due behind_it order turn = tt
+one_more_turn p rest (q ∷ handed) due behind_it order turn =
+    let at = subst (λ (d : Option ℕ). IsHeldInOrder d (p ∷ rest)) behind_it order in
+    (at.1.2, turn)
+
+-- one more is handed on
+abbrev with_handed : Packet → Account → Account
+with_handed p a = record a { handed = p ∷ a.handed }
+
+hands : (kept : Packets) (drops : Bool) (most : ℕ) (a : Account) (j : JitterState) (stray : Option Packet) (p : Packet) → Ledger kept drops most a j stray → slice_get j.buffer.held 0 ≡ Some p → Ledger kept drops most (with_handed p a) (without_due j) stray
+hands kept drops most a j stray p l is =
+    let went = first_went j.buffer p is in
+    let rest = (without_first j.buffer).held in
+    let order = subst (IsHeldInOrder j.buffer.due) went.held l.waits in
+    record {
+      exact = parts_handed kept (a.dropped ++ packet_alone stray) (a.handed ++ a.earlier) rest p
+          (subst (λ (w : Packets). IsPermutation kept ((a.dropped ++ packet_alone stray) ++ ((a.handed ++ a.earlier) ++ w))) went.held l.exact);
+      quiet = l.quiet;
+      turn = one_more_turn p rest a.handed j.buffer.due l.due order l.turn;
+      before = l.before;
+      few = l.few;
+      due = went.due;
+      waits = subst (λ (d : Option ℕ). IsHeldInOrder d rest) (sym went.due) (rest_in_order j.buffer.due p rest order);
+      numbered = l.numbered;
+    }
+
+-- a stream ends, and these are dropped
+abbrev ended_with : Account → Packets → Account
+ended_with a lost = record { handed = []; earlier = a.handed ++ a.earlier; streams = a.streams + 1; dropped = lost }
+
+-- no packet waits alone where no list has it
+none_alone : (x : Packets) (stray : Option Packet) → x ++ packet_alone stray ≡ [] → stray ≡ None
+none_alone x None is = refl
+none_alone [] (Some p) is = absurd (let bad = is in cc)
+none_alone (q ∷ x) (Some p) is = absurd (let bad = is in cc)
+
+-- an assembler to which access units that are gone were put back
+abbrev with_gone : List AccessUnitValue → Assembly → Assembly
+with_gone gone a = record a { ended = gone ++ a.ended }
+
+module _ (gone : List AccessUnitValue) where
+  ending_back : (a : Assembly) → after_ending (with_gone gone a) ≡ with_gone gone (after_ending a)
+  ending_back a = ap (λ (e : List AccessUnitValue). record (after_ending a) { ended = e }) (append_assoc gone a.ended (given_out (not a.is_gap && is_run_closed a.state.run) a.unit))
+
+  finishing_back : (a : Assembly) → after_finishing (with_gone gone a) ≡ with_gone gone (after_finishing a)
+  finishing_back a = ap (λ (e : List AccessUnitValue). record (after_finishing a) { ended = e }) (append_assoc gone a.ended (given_out false a.unit))
+
+  skip_back : (a : Assembly) (number : ℕ) → after_unit_skip (with_gone gone a) number ≡ with_gone gone (after_unit_skip a number)
+  skip_back a number = elim (is_run_kept a.expected number) as (λ b.
+      cond b (record (with_gone gone a) { expected = expected_after_skip a.expected number }) (behind_missing (with_gone gone a) number)
+      ≡ with_gone gone (cond b (record a { expected = expected_after_skip a.expected number }) (behind_missing a number))) [ true ↦ refl | false ↦ refl ]
+
+  over_back : (a : Assembly) (number : ℕ) → after_pass_over (with_gone gone a) number ≡ with_gone gone (after_pass_over a number)
+  over_back a number = elim (is_late a.expected number) as (λ b.
+      cond b (with_gone gone a) (behind_missing (with_gone gone a) number) ≡ with_gone gone (cond b a (behind_missing a number))) [ true ↦ refl | false ↦ refl ]
+
+  taken_back : (most limit : ℕ) (a : Assembly) (p : Packet) → with_unit_within limit (after_taken_rtp most (with_gone gone a) p) ≡ with_gone gone (with_unit_within limit (after_taken_rtp most a p))
+  taken_back most limit a p =
+      let own = (if p.1.marker then whole_if (is_run_closed (after_taken_packet most (taken_by a p.1.timestamp) p.0 p.1.payload).at_work.state.run) (unit_with most a p) ∷ [] else []) in
+      ap (λ (e : List AccessUnitValue). record (with_unit_within limit (after_taken_rtp most a p)) { ended = e })
+      (ap (λ (e : List AccessUnitValue). e ++ own) (append_assoc gone a.ended (ended_by a p)) ∙ append_assoc gone (a.ended ++ ended_by a p) own)
+
+  rtp_back : (most limit : ℕ) (a : Assembly) (p : Packet) (answer : Result Received PacketError) → after_rtp most limit (with_gone gone a) p answer ≡ with_gone gone (after_rtp most limit a p answer)
+  rtp_back most limit a p (Ok (received.Late n)) = refl
+  rtp_back most limit a p (Ok received.InOrder) = taken_back most limit a p
+  rtp_back most limit a p (Ok (received.Gap n)) = taken_back most limit a p
+  rtp_back most limit a p (Ok (received.TooLong n)) = taken_back most limit a p
+  rtp_back most limit a p (Err error) = refl
+
+  no_unit_back : (a : Assembly) (p : Packet) → after_no_unit (with_gone gone a) p ≡ with_gone gone (after_no_unit a p)
+  no_unit_back a p = elim (ends_with a p) as (λ b. after_unit_skip (cond b (after_ending (with_gone gone a)) (with_gone gone a)) p.0 ≡ with_gone gone (after_unit_skip (cond b (after_ending a) a) p.0)) [
+    | true ↦ ap (λ (x : Assembly). after_unit_skip x p.0) (ending_back a) ∙ skip_back (after_ending a) p.0
+    | false ↦ skip_back a p.0
+  ]
+
+  after_back : (most limit : ℕ) (a : Assembly) (p : Packet) (answer : Result Received PacketError) → assembly_after most limit (with_gone gone a) p answer ≡ with_gone gone (assembly_after most limit a p answer)
+  after_back most limit a p (Ok answer) = elim (bears_nothing p.1.payload) as (λ b.
+      cond b (after_unit_skip (with_gone gone a) p.0) (after_rtp most limit (with_gone gone a) p (Ok answer)) ≡ with_gone gone (cond b (after_unit_skip a p.0) (after_rtp most limit a p (Ok answer)))) [
+        | true ↦ skip_back a p.0
+        | false ↦ rtp_back most limit a p (Ok answer)
+      ]
+  after_back most limit a p (Err error) = elim (is_no_unit a error p.1.payload) as (λ b.
+      cond b (after_no_unit (with_gone gone a) p) (after_pass_over (with_gone gone a) p.0) ≡ with_gone gone (cond b (after_no_unit a p) (after_pass_over a p.0))) [
+        | true ↦ no_unit_back a p
+        | false ↦ over_back a p.0
+      ]
+
+texts_more : (units more_units : List AccessUnitValue) → texts_of (units ++ more_units) ≡ texts_of units ++ texts_of more_units
+texts_more [] more_units = refl
+texts_more (unit ∷ units) more_units = elim (bears_nothing unit.bytes) as (λ b.
+    cond b (texts_of (units ++ more_units)) ((unit.timestamp, unit.bytes) ∷ texts_of (units ++ more_units))
+    ≡ cond b (texts_of units) ((unit.timestamp, unit.bytes) ∷ texts_of units) ++ texts_of more_units) [
+      | true ↦ texts_more units more_units
+      | false ↦ ap (λ (l : List (ℕ × List ℕ)). (unit.timestamp, unit.bytes) ∷ l) (texts_more units more_units)
+    ]
+
+-- what an assembler brings of these packets, of which these texts were given out
+record Made (texts : List (ℕ × List ℕ)) (packets : Packets) (a : Assembly) : Type 0 where
+  gone : List AccessUnitValue
+  made : IsAssemblerOf packets (with_gone gone a)
+  texts_are : texts ≡ texts_of gone
+
+module _ (texts : List (ℕ × List ℕ)) (packets : Packets) (a : Assembly) (it : Made texts packets a) where
+  finishing_made : Made texts packets (after_finishing a)
+  finishing_made = record {
+    gone = it.gone;
+    made = subst (IsAssemblerOf packets) (finishing_back it.gone a) (stream_ended packets (with_gone it.gone a) it.made);
+    texts_are = it.texts_are;
+  }
+
+  ending_made : Made texts packets (after_ending a)
+  ending_made = record {
+    gone = it.gone;
+    made = subst (IsAssemblerOf packets) (ending_back it.gone a) (unit_ended packets (with_gone it.gone a) it.made);
+    texts_are = it.texts_are;
+  }
+
+  told_made : (number : ℕ) → Made texts packets (record a { expected = Some number })
+  told_made number = record { gone = it.gone; made = number_told number packets (with_gone it.gone a) it.made; texts_are = it.texts_are }
+
+  restart_made : Made texts packets (open_assembly a.state None none_open [])
+  restart_made = record {
+    gone = it.gone;
+    made = subst (λ (e : List AccessUnitValue). IsAssemblerOf packets (open_assembly a.state None none_open e)) (sym (append-nil it.gone))
+        (rest_dropped it.gone a.ended packets (with_gone it.gone a) it.made refl);
+    texts_are = it.texts_are;
+  }
+
+  taken_made : (most limit : ℕ) (framing : Framing) (p : Packet) (answer : Result Received PacketError) → IsAnswerTo most (begun_for a p) (believed framing p) answer → (answer ≡ Err OutOfMemory → ⊥) →
+      Made texts (p ∷ packets) (marker_forgotten (assembly_after most limit (begun_for a p) (believed framing p) answer))
+  taken_made most limit framing p answer answered room = record {
+    gone = it.gone;
+    made = subst (IsAssemblerOf (p ∷ packets)) (ap marker_forgotten (after_back it.gone most limit (begun_for a p) (believed framing p) answer))
+        (one_taken most limit framing p answer packets (with_gone it.gone a) it.made answered room);
+    texts_are = it.texts_are;
+  }
+
+  -- the first that ended is gone
+  first_made : (unit : AccessUnitValue) (units : List AccessUnitValue) → a.ended ≡ unit ∷ units → Made (texts ++ texts_of (unit ∷ [])) packets (record a { ended = units })
+  first_made unit units is = record {
+    gone = it.gone ++ unit ∷ [];
+    made = subst (λ (e : List AccessUnitValue). IsAssemblerOf packets (record a { ended = e })) (ap (λ (e : List AccessUnitValue). it.gone ++ e) is ∙ sym (append_assoc it.gone (unit ∷ []) units)) it.made;
+    texts_are = ap (λ (t : List (ℕ × List ℕ)). t ++ texts_of (unit ∷ [])) it.texts_are ∙ sym (texts_more it.gone (unit ∷ []));
+  }
+
+  -- one without bytes
+  bare_made : (unit : AccessUnitValue) (units : List AccessUnitValue) → a.ended ≡ unit ∷ units → bears_nothing unit.bytes ≡ true → Made texts packets (record a { ended = units })
+  bare_made unit units is e = subst (λ (t : List (ℕ × List ℕ)). Made t packets (record a { ended = units })) (ap (λ (t : List (ℕ × List ℕ)). texts ++ t) (rw e refl) ∙ append-nil texts) (first_made unit units is)
+
+  -- one with bytes
+  given_made : (unit : AccessUnitValue) (units : List AccessUnitValue) → a.ended ≡ unit ∷ units → bears_nothing unit.bytes ≡ false → Made (texts ++ (unit.timestamp, unit.bytes) ∷ []) packets (record a { ended = units })
+  given_made unit units is e = subst (λ (t : List (ℕ × List ℕ)). Made t packets (record a { ended = units })) (ap (λ (t : List (ℕ × List ℕ)). texts ++ t) (rw e refl)) (first_made unit units is)
+
+-- the counts of packets that were due, together
+abbrev due_sum : Counts → ℕ
+due_sum c = c.taken + c.skipped + c.refused + c.no_unit + c.late
+
+-- one of these more is counted, and the others stay
+record OneMore (c new : Counts) : Type 0 where
+  one : due_sum c < 18446744073709551615 → due_sum new ≡ due_sum c + 1
+  twice : new.twice ≡ c.twice
+  stray : new.stray ≡ c.stray
+  anew : new.anew ≡ c.anew
+  units : new.units ≡ c.units
+
+skip_one : (c : Counts) (answer : Received) → OneMore c (counted_skip c answer)
+skip_one c (received.Late n) = record { one = λ lt. omega (arith, lt); twice = refl; stray = refl; anew = refl; units = refl }
+skip_one c received.InOrder = record { one = λ lt. omega (arith, lt); twice = refl; stray = refl; anew = refl; units = refl }
+skip_one c (received.Gap n) = record { one = λ lt. omega (arith, lt); twice = refl; stray = refl; anew = refl; units = refl }
+skip_one c (received.TooLong n) = record { one = λ lt. omega (arith, lt); twice = refl; stray = refl; anew = refl; units = refl }
+
+answer_one : (c : Counts) (answer : Received) (text : Bool) → OneMore c (counted_answer c answer text)
+answer_one c (received.Late n) text = record { one = λ lt. omega (arith, lt); twice = refl; stray = refl; anew = refl; units = refl }
+answer_one c received.InOrder text = record { one = λ lt. omega (arith, lt); twice = refl; stray = refl; anew = refl; units = refl }
+answer_one c (received.Gap n) text = record { one = λ lt. omega (arith, lt); twice = refl; stray = refl; anew = refl; units = refl }
+answer_one c (received.TooLong n) text = record { one = λ lt. omega (arith, lt); twice = refl; stray = refl; anew = refl; units = refl }
+
+no_unit_one : (c : Counts) (answer : Received) → OneMore c (counted_no_unit c answer)
+no_unit_one c (received.Late n) = record { one = λ lt. omega (arith, lt); twice = refl; stray = refl; anew = refl; units = refl }
+no_unit_one c received.InOrder = record { one = λ lt. omega (arith, lt); twice = refl; stray = refl; anew = refl; units = refl }
+no_unit_one c (received.Gap n) = record { one = λ lt. omega (arith, lt); twice = refl; stray = refl; anew = refl; units = refl }
+no_unit_one c (received.TooLong n) = record { one = λ lt. omega (arith, lt); twice = refl; stray = refl; anew = refl; units = refl }
+
+due_one : (expected : Option ℕ) (c : Counts) (p : Packet) (answer : Result Received PacketError) (text : Bool) → OneMore c (counted_due expected c p answer text)
+due_one expected c p (Ok answer) text = elim (bears_nothing p.1.payload) as (λ b. OneMore c (cond b (counted_skip c answer) (counted_answer c answer text))) [
+  | true ↦ skip_one c answer
+  | false ↦ answer_one c answer text
+]
+due_one expected c p (Err error) text = record { one = λ lt. omega (arith, lt); twice = refl; stray = refl; anew = refl; units = refl }
+
+framing_one : (c new : Counts) (still unbelieved : Bool) → OneMore c new → OneMore c (counted_framing new still unbelieved)
+framing_one c new still unbelieved it = record { one = it.one; twice = it.twice; stray = it.stray; anew = it.anew; units = it.units }
+
+answered_one : (a : Assembly) (c : Counts) (at : Framing) (p : Packet) (marker text : Bool) (answer : Result Received PacketError) → OneMore c (counts_answered a c at p marker text answer)
+answered_one a c at p marker text (Ok answer) =
+    let plain = counted_due a.expected c p (Ok answer) text in
+    let it = due_one a.expected c p (Ok answer) text in
+    elim (is_one_taken p answer) as (λ b. OneMore c (cond b (counted_framing plain (begins_still a at p) (marker && not p.1.marker)) plain)) [
+      | true ↦ framing_one c plain (begins_still a at p) (marker && not p.1.marker) it
+      | false ↦ it
+    ]
+answered_one a c at p marker text (Err error) = elim (is_no_unit a error p.1.payload) as (λ b. OneMore c (cond b (counted_no_unit c (skip_answer a.expected p.0)) (counted_due a.expected c p (Err error) text))) [
+  | true ↦ no_unit_one c (skip_answer a.expected p.0)
+  | false ↦ due_one a.expected c p (Err error) text
+]
+
+-- no more packets were kept, or told late, than calls made
+count_few : (tells : ReceiverCall → Bool) (calls : List ReceiverCall) → call_count tells calls ≤ length calls
+count_few tells [] = omega arith
+count_few tells (call ∷ calls) =
+    let rest = count_few tells calls in
+    elim (tells call) as (λ b. cond b (call_count tells calls + 1) (call_count tells calls) ≤ length (call ∷ calls)) [ true ↦ omega (arith, rest) | false ↦ omega (arith, rest) ]
+
+kept_few : (calls : List ReceiverCall) → length (kept_packets calls) + call_count tells_late calls ≤ length calls
+kept_few [] = omega arith
+kept_few (PushCall now p pushes.Held ∷ calls) = let rest = kept_few calls in omega (arith, rest)
+kept_few (PushCall now p (pushes.Late n) ∷ calls) = let rest = kept_few calls in omega (arith, rest)
+kept_few (PushCall now p pushes.Twice ∷ calls) = let rest = kept_few calls in omega (arith, rest)
+kept_few (PushCall now p pushes.Stray ∷ calls) = let rest = kept_few calls in omega (arith, rest)
+kept_few (PushCall now p pushes.Anew ∷ calls) = let rest = kept_few calls in omega (arith, rest)
+kept_few (PushCall now p pushes.Jumped ∷ calls) = let rest = kept_few calls in omega (arith, rest)
+kept_few (PushCall now p pushes.Full ∷ calls) = let rest = kept_few calls in omega (arith, rest)
+kept_few (BackCall p (reasons.Late n) ∷ calls) = let rest = kept_few calls in omega (arith, rest)
+kept_few (BackCall p reasons.Twice ∷ calls) = let rest = kept_few calls in omega (arith, rest)
+kept_few (BackCall p reasons.Full ∷ calls) = let rest = kept_few calls in omega (arith, rest)
+kept_few (BackCall p reasons.OutOfMemory ∷ calls) = let rest = kept_few calls in omega (arith, rest)
+kept_few (NextCall now unit ∷ calls) = let rest = kept_few calls in omega (arith, rest)
+kept_few (LackCall now ∷ calls) = let rest = kept_few calls in omega (arith, rest)
+kept_few (FinishCall ∷ calls) = let rest = kept_few calls in omega (arith, rest)
+kept_few (RestartCall ∷ calls) = let rest = kept_few calls in omega (arith, rest)
+kept_few (SettingsCall config ∷ calls) = let rest = kept_few calls in omega (arith, rest)
+kept_few (BeginCall number ∷ calls) = let rest = kept_few calls in omega (arith, rest)
+
+texts_few : (calls : List ReceiverCall) → length (texts_given calls) ≤ length calls
+texts_few [] = omega arith
+texts_few (NextCall now (Some unit) ∷ calls) =
+    let rest = texts_few calls in
+    let more_is = length-append (texts_given calls) ((unit.timestamp, unit.bytes) ∷ []) in
+    omega (arith, rest, more_is)
+texts_few (NextCall now None ∷ calls) = let rest = texts_few calls in omega (arith, rest)
+texts_few (PushCall now p answer ∷ calls) = let rest = texts_few calls in omega (arith, rest)
+texts_few (BackCall p reason ∷ calls) = let rest = texts_few calls in omega (arith, rest)
+texts_few (LackCall now ∷ calls) = let rest = texts_few calls in omega (arith, rest)
+texts_few (FinishCall ∷ calls) = let rest = texts_few calls in omega (arith, rest)
+texts_few (RestartCall ∷ calls) = let rest = texts_few calls in omega (arith, rest)
+texts_few (SettingsCall config ∷ calls) = let rest = texts_few calls in omega (arith, rest)
+texts_few (BeginCall number ∷ calls) = let rest = texts_few calls in omega (arith, rest)
+
+-- where fewer calls were made than a count goes to, the counts are of as many
+record Exact (calls : List ReceiverCall) (texts : List (ℕ × List ℕ)) (packets : Packets) (c : Counts) : Type 0 where
+  twice : c.twice ≡ call_count tells_twice calls
+  stray : c.stray ≡ call_count tells_stray calls
+  anew : c.anew ≡ call_count tells_anew calls
+  units : c.units ≡ length texts
+  handed : due_sum c ≡ length packets + call_count tells_late calls
+
+abbrev Counted : ℕ → List ReceiverCall → List (ℕ × List ℕ) → Packets → Counts → Type 0
+Counted n calls texts packets c = n < 18446744073709551616 → Exact calls texts packets c
+
+-- more are kept than were handed on, where one waits
+handed_few : (kept x h w : Packets) (p : Packet) → IsPermutation kept (x ++ (h ++ (p ∷ w))) → length h + 1 ≤ length kept
+handed_few kept x h w p exact =
+    let same = length_permutation kept (x ++ (h ++ (p ∷ w))) exact in
+    let first = length-append x (h ++ (p ∷ w)) in
+    let second = length-append h (p ∷ w) in
+    omega (arith, same, first, second)
+
+due_counted : (n : ℕ) (calls : List ReceiverCall) (texts : List (ℕ × List ℕ)) (packets : Packets) (p : Packet) (c new : Counts) → length packets + 1 + call_count tells_late calls ≤ n → OneMore c new → Counted n calls texts packets c → Counted n calls texts (p ∷ packets) new
+due_counted n calls texts packets p c new few one_more counted = λ lt.
+    let it = counted lt in
+    let sum = it.handed in
+    let one = one_more.one (omega (arith, lt, few, sum)) in
+    record {
+      twice = one_more.twice ∙ it.twice;
+      stray = one_more.stray ∙ it.stray;
+      anew = one_more.anew ∙ it.anew;
+      units = one_more.units ∙ it.units;
+      handed = omega (arith, one, sum);
+    }
+
+-- where other counts change alone
+same_counted : (n : ℕ) (calls : List ReceiverCall) (texts : List (ℕ × List ℕ)) (packets : Packets) (c : Counts) (lost : ℕ) → Counted n calls texts packets c → Counted n calls texts packets (counted_dropped c lost)
+same_counted n calls texts packets c lost counted = λ lt. let it = counted lt in record { twice = it.twice; stray = it.stray; anew = it.anew; units = it.units; handed = it.handed }
+
+-- an access unit more is given out
+unit_counted : (n : ℕ) (calls : List ReceiverCall) (texts : List (ℕ × List ℕ)) (packets : Packets) (c : Counts) (text : ℕ × List ℕ) (whole : Bool) → length texts ≤ n → Counted n calls texts packets c → Counted (n + 1) calls (texts ++ text ∷ []) packets (counted_unit c whole)
+unit_counted n calls texts packets c text whole few counted = λ lt.
+    let it = counted (omega (arith, lt)) in
+    let units = it.units in
+    let more_is = length-append texts (text ∷ []) in
+    record { twice = it.twice; stray = it.stray; anew = it.anew; units = omega (arith, units, more_is, few, lt); handed = it.handed }
+
+-- a packet is pushed
+push_counted : (calls : List ReceiverCall) (packets : Packets) (now : ℕ) (p : Packet) (c : Counts) (answer : Pushed) → length packets + call_count tells_late calls ≤ length calls → Counted (length calls) calls (texts_given calls) packets c →
+    Counted (length calls + 1) (PushCall now p answer ∷ calls) (texts_given calls) packets (counted_push c answer)
+push_counted calls packets now p c pushes.Held small counted = λ lt. let it = counted (omega (arith, lt)) in record { twice = it.twice; stray = it.stray; anew = it.anew; units = it.units; handed = it.handed }
+push_counted calls packets now p c pushes.Full small counted = λ lt. let it = counted (omega (arith, lt)) in record { twice = it.twice; stray = it.stray; anew = it.anew; units = it.units; handed = it.handed }
+push_counted calls packets now p c pushes.Jumped small counted = λ lt. let it = counted (omega (arith, lt)) in record { twice = it.twice; stray = it.stray; anew = it.anew; units = it.units; handed = it.handed }
+push_counted calls packets now p c (pushes.Late n) small counted = λ lt.
+    let it = counted (omega (arith, lt)) in
+    let sum = it.handed in
+    record { twice = it.twice; stray = it.stray; anew = it.anew; units = it.units; handed = omega (arith, sum, small, lt) }
+push_counted calls packets now p c pushes.Twice small counted = λ lt. let it = counted (omega (arith, lt)) in let few = count_few tells_twice calls in let is = it.twice in record { twice = omega (arith, few, is, lt); stray = it.stray; anew = it.anew; units = it.units; handed = it.handed }
+push_counted calls packets now p c pushes.Stray small counted = λ lt. let it = counted (omega (arith, lt)) in let few = count_few tells_stray calls in let is = it.stray in record { twice = it.twice; stray = omega (arith, few, is, lt); anew = it.anew; units = it.units; handed = it.handed }
+push_counted calls packets now p c pushes.Anew small counted = λ lt. let it = counted (omega (arith, lt)) in let few = count_few tells_anew calls in let is = it.anew in record { twice = it.twice; stray = it.stray; anew = omega (arith, few, is, lt); units = it.units; handed = it.handed }
+
+-- one comes back
+back_counted : (calls : List ReceiverCall) (packets : Packets) (p : Packet) (c : Counts) (reason : NotPushedReason) → length packets + call_count tells_late calls ≤ length calls → Counted (length calls) calls (texts_given calls) packets c →
+    Counted (length calls + 1) (BackCall p reason ∷ calls) (texts_given calls) packets (counted_reason c reason)
+back_counted calls packets p c (reasons.Late n) small counted = λ lt.
+    let it = counted (omega (arith, lt)) in
+    let sum = it.handed in
+    record { twice = it.twice; stray = it.stray; anew = it.anew; units = it.units; handed = omega (arith, sum, small, lt) }
+back_counted calls packets p c reasons.Twice small counted = λ lt. let it = counted (omega (arith, lt)) in let few = count_few tells_twice calls in let is = it.twice in record { twice = omega (arith, few, is, lt); stray = it.stray; anew = it.anew; units = it.units; handed = it.handed }
+back_counted calls packets p c reasons.Full small counted = λ lt. let it = counted (omega (arith, lt)) in record { twice = it.twice; stray = it.stray; anew = it.anew; units = it.units; handed = it.handed }
+back_counted calls packets p c reasons.OutOfMemory small counted = λ lt. let it = counted (omega (arith, lt)) in record { twice = it.twice; stray = it.stray; anew = it.anew; units = it.units; handed = it.handed }
+
+-- those that were handed on were kept
+handed_kept : (kept x h w : Packets) → IsPermutation kept (x ++ (h ++ w)) → length h ≤ length kept
+handed_kept kept x h w exact =
+    let same = length_permutation kept (x ++ (h ++ w)) exact in
+    let first = length-append x (h ++ w) in
+    let second = length-append h w in
+    omega (arith, same, first, second)
+
+-- an account once a packet came
+record After (packets kept : Packets) (drops : Bool) (most : ℕ) (j : JitterState) (stray : Option Packet) : Type 0 where
+  account : Account
+  same : account.handed ++ account.earlier ≡ packets
+  ledger : Ledger kept drops most account j stray
+
+-- each answer of a push
+module _ (kept : Packets) (drops : Bool) (most : ℕ) (a : Account) (now : ℕ) (j : JitterState) (stray : Option Packet) (p : Packet) (small : p.0 < 65536) (l : Ledger kept drops most a j stray) where
+  held_after : push_answer j.buffer p.0 ≡ buffered.Held → Ledger (p ∷ kept) drops most a (with_packet now j p) stray
+  held_after is =
+      let it = pushed a.handed j.buffer p small l.waits l.due in
+      let new = after_push j.buffer p in
+      let put : IsPermutation (p ∷ j.buffer.held) new.held = subst (λ (x : Packets). IsPermutation (p ∷ j.buffer.held) (x ++ new.held)) (pushed_held a.handed j.buffer p small l.waits l.due is) it.moved in
+      record {
+        exact = parts_put kept a.dropped (packet_alone stray) (a.handed ++ a.earlier) j.buffer.held l.exact p new.held put;
+        quiet = l.quiet;
+        turn = l.turn;
+        before = l.before;
+        few = l.few;
+        due = it.due;
+        waits = it.waits;
+        numbered = l.numbered;
+      }
+
+  stray_after : Ledger (p ∷ kept) true most (record a { dropped = a.dropped ++ packet_alone stray }) j (Some p)
+  stray_after = record {
+    exact = parts_alone kept a.dropped (packet_alone stray) (a.handed ++ a.earlier) j.buffer.held l.exact p;
+    quiet = λ e. absurd (let bad = e in cc);
+    turn = l.turn;
+    before = l.before;
+    few = l.few;
+    due = l.due;
+    waits = l.waits;
+    numbered = small;
+  }
+
+  -- where one waits alone packets may be dropped already
+  quiet_then : (x : Packets) → (stray ≡ None → ⊥) → drops ≡ false → x ≡ []
+  quiet_then x some e = absurd (some (none_alone a.dropped stray (l.quiet e)))
+
+  jumped_after : (stray ≡ None → ⊥) → After (a.handed ++ a.earlier) (p ∷ kept) drops most (held_with now j stray p) None
+  jumped_after some =
+      let it = joined_moves a.handed now j stray p small l.numbered l.waits l.due in
+      let new = held_with now j stray p in
+      let over = joined_over a.handed now j stray p in
+      record {
+        account = record a { dropped = a.dropped ++ it.lost };
+        same = refl;
+        ledger = record {
+          exact = parts_dealt kept a.dropped (packet_alone stray) (a.handed ++ a.earlier) j.buffer.held l.exact p it.lost new.buffer.held it.moved;
+          quiet = quiet_then ((a.dropped ++ it.lost) ++ []) some;
+          turn = l.turn;
+          before = l.before;
+          few = subst (λ (b : Bool). a.streams + cond b 1 0 ≤ most) (sym over) l.few;
+          due = it.due;
+          waits = it.waits;
+          numbered = tt;
+        };
+      }
+
+  anew_after : (stray ≡ None → ⊥) → After (a.handed ++ a.earlier) (p ∷ kept) drops (most + 1) (anew_of now j.config stray p) None
+  anew_after some =
+      let it = anew_moves now j.config stray p small l.numbered in
+      let new = anew_of now j.config stray p in
+      record {
+        account = ended_with a (a.dropped ++ (j.buffer.held ++ it.lost));
+        same = refl;
+        ledger = record {
+          exact = parts_anew kept a.dropped (packet_alone stray) (a.handed ++ a.earlier) j.buffer.held l.exact p it.lost new.buffer.held it.moved;
+          quiet = quiet_then ((a.dropped ++ (j.buffer.held ++ it.lost)) ++ []) some;
+          turn = tt;
+          before = one_stream a.streams a.handed a.earlier l.before l.turn;
+          few = subst (λ (b : Bool). (a.streams + 1) + cond b 1 0 ≤ most + 1) (sym it.over) (let few = l.few in omega (arith, few));
+          due = tt;
+          waits = it.waits;
+          numbered = tt;
+        };
+      }
+
+-- an account of what waits, and of the packet that waits alone
+record Whole (kept : Packets) (drops : Bool) (most : ℕ) (texts : List (ℕ × List ℕ)) (n : ℕ) (calls : List ReceiverCall) (s : Reception) : Type 0 where
+  account : Account
+  ledger : Ledger kept drops most account s.waiting s.stray
+  made : Made texts (account.handed ++ account.earlier) s.assembler
+  counted : Counted n calls texts (account.handed ++ account.earlier) s.counts
+
+-- so by calls
+abbrev WholeOf : List ReceiverCall → Reception → Type 0
+WholeOf calls s = Whole (kept_packets calls) (list_any may_drop calls) (call_count ends_stream calls) (texts_given calls) (length calls) calls s
+
+-- what is given out, by its timestamp and bytes
+abbrev unit_texts : Option ReceivedAccessUnitValue → List (ℕ × List ℕ)
+unit_texts None = []
+unit_texts (Some unit) = (unit.timestamp, unit.bytes) ∷ []
+
+-- each step of a receiver
+module _ (kept : Packets) (drops : Bool) (most : ℕ) (texts : List (ℕ × List ℕ)) (n : ℕ) (calls : List ReceiverCall) (bound : length kept + call_count tells_late calls ≤ n) (few_texts : length texts ≤ n) where
+  due_whole : (now : ℕ) (s t : Reception) → IsDueTaken now s t → Whole kept drops most texts n calls s → Whole kept drops most texts n calls t
+  due_whole now s t it whole =
+      let j = s.waiting in
+      let a = whole.account in
+      let l = whole.ledger in
+      let first = first_is_due (is_pressed now j) j.buffer.window j.buffer.due j.buffer.held it.packet it.due in
+      subst (Whole kept drops most texts n calls) (sym it.stands) (record {
+        account = with_handed it.packet whole.account;
+        ledger = hands kept drops most whole.account j s.stray it.packet whole.ledger first;
+        made = taken_made texts (whole.account.handed ++ whole.account.earlier) s.assembler whole.made s.run_limit s.unit_limit (framing_at s it.packet) it.packet it.answer it.answered it.room;
+        counted =
+            let went = first_went j.buffer it.packet first in
+            let rest = (without_first j.buffer).held in
+            let few = handed_few kept (a.dropped ++ packet_alone s.stray) (a.handed ++ a.earlier) rest it.packet (subst (λ (x : Packets). IsPermutation kept ((a.dropped ++ packet_alone s.stray) ++ ((a.handed ++ a.earlier) ++ x))) went.held l.exact) in
+            let one = answered_one (begun_for s.assembler it.packet) s.counts (framing_at s it.packet) (believed_packet s it.packet) it.packet.1.marker
+            (is_text_given_up s.run_limit s.unit_limit (begun_for s.assembler it.packet) (believed_packet s it.packet)) it.answer in
+            due_counted n calls texts (a.handed ++ a.earlier) it.packet s.counts (after_due s it.packet it.answer).counts (omega (arith, few, bound)) one whole.counted;
+      })
+
+  ended_whole : (now : ℕ) (s t : Reception) → IsEndedBefore now s t → Whole kept drops most texts n calls s → Whole kept drops most texts n calls t
+  ended_whole now s t it whole = subst (Whole kept drops most texts n calls) (sym it.stands)
+      (elim (is_behind_missing s.assembler it.packet.0) as (λ b. Whole kept drops most texts n calls (cond b (ended_behind_missing s it.packet) (ended_by_content s))) [
+        | true ↦ record { account = whole.account; ledger = whole.ledger; made = finishing_made texts (whole.account.handed ++ whole.account.earlier) s.assembler whole.made; counted = same_counted n calls texts (whole.account.handed ++ whole.account.earlier) s.counts (missing_count s.assembler.expected it.packet.0) whole.counted }
+        | false ↦ record { account = whole.account; ledger = whole.ledger; made = ending_made texts (whole.account.handed ++ whole.account.earlier) s.assembler whole.made; counted = whole.counted }
+      ])
+
+  bare_whole_of : (units : List AccessUnitValue) (s : Reception) → s.assembler.ended ≡ units → Whole kept drops most texts n calls s → Whole kept drops most texts n calls (without_bare_of s units)
+  bare_whole_of [] s is whole = whole
+  bare_whole_of (unit ∷ units) s is whole = elim (bears_nothing unit.bytes) as (λ b. bears_nothing unit.bytes ≡ b → Whole kept drops most texts n calls (cond b (without_bare_of (bare_passed s unit units) units) s)) [
+    | true ↦ λ e. bare_whole_of units (bare_passed s unit units) refl (record { account = whole.account; ledger = whole.ledger; made = bare_made texts (whole.account.handed ++ whole.account.earlier) s.assembler whole.made unit units is e; counted = whole.counted })
+    | false ↦ λ e. whole
+  ] refl
+
+  bare_whole : (s : Reception) → Whole kept drops most texts n calls s → Whole kept drops most texts n calls (without_bare s)
+  bare_whole s whole = bare_whole_of s.assembler.ended s refl whole
+
+  drained_whole : (now : ℕ) (s t : Reception) → IsDrained now s t → Whole kept drops most texts n calls s → Whole kept drops most texts n calls t
+  drained_whole now s t none whole = whole
+  drained_whole now s t (bare before) whole = bare_whole _ (drained_whole now s _ before whole)
+  drained_whole now s t (more before empty taken) whole = due_whole now _ t taken (drained_whole now s _ before whole)
+  drained_whole now s t (behind before empty ended) whole = ended_whole now _ t ended (drained_whole now s _ before whole)
+
+  anew_whole : (s : Reception) → Whole kept drops most texts n calls s → Whole kept drops most texts n calls (ended_if_anew s)
+  anew_whole s whole = elim (has_no_unit s.assembler.ended && s.is_anew) as (λ b. (has_no_unit s.assembler.ended && s.is_anew) ≡ b → Whole kept drops most texts n calls (ended_if_anew s)) [
+    | true ↦ λ e. rw e (record { account = whole.account; ledger = whole.ledger; made = finishing_made texts (whole.account.handed ++ whole.account.earlier) s.assembler whole.made; counted = whole.counted })
+    | false ↦ λ e. rw e whole
+  ] refl
+
+  -- at the end none waits but the packet alone, which is dropped
+  finish_whole : (s : Reception) → s.waiting.buffer.held ≡ [] → s.waiting.is_over ≡ true → Whole kept drops most texts n calls s → Whole kept drops most texts n calls (after_finish s)
+  finish_whole s empty over whole =
+      let a = whole.account in
+      let l = whole.ledger in
+      let alone = packet_alone s.stray in
+      let same : a.dropped ++ alone ≡ (a.dropped ++ alone) ++ s.waiting.buffer.held = sym (append-nil (a.dropped ++ alone)) ∙ ap (λ (w : Packets). (a.dropped ++ alone) ++ w) (sym empty) in
+      record {
+        account = ended_with a (a.dropped ++ alone);
+        made = finishing_made texts (a.handed ++ a.earlier) s.assembler whole.made;
+        counted = whole.counted;
+        ledger = record {
+          exact = subst (λ (x : Packets). IsPermutation kept ((x ++ []) ++ ((a.handed ++ a.earlier) ++ []))) (sym same)
+              (parts_dropped kept a.dropped alone (a.handed ++ a.earlier) s.waiting.buffer.held l.exact);
+          quiet = λ e. append-nil (a.dropped ++ alone) ∙ l.quiet e;
+          turn = tt;
+          before = one_stream a.streams a.handed a.earlier l.before l.turn;
+          few = let few : a.streams + cond true 1 0 ≤ most = subst (λ (b : Bool). a.streams + cond b 1 0 ≤ most) over l.few in omega (arith, few);
+          due = tt;
+          waits = refl;
+          numbered = tt;
+        };
+      }
+
+  none_waits : (now : ℕ) (j : JitterState) → j.is_over ≡ true → due_packet now j ≡ None → j.buffer.held ≡ []
+  none_waits now j over due = by j.buffer.held (sym (rw over refl) ∙ due)
+    where
+      by : (held : Packets) → slice_get held 0 ≡ None → held ≡ []
+      by [] e = refl
+      by (p ∷ held) e = absurd (let bad = e in cc)
+
+  no_unit_is : (units : List AccessUnitValue) → has_no_unit units ≡ true → units ≡ []
+  no_unit_is [] e = refl
+  no_unit_is (unit ∷ units) e = absurd (let bad = e in cc)
+
+  over_whole : (now : ℕ) (s : Reception) → NoneIsDueUnlessEnded now s → Whole kept drops most texts n calls s → Whole kept drops most texts n calls (ended_if_over s)
+  over_whole now s until whole =
+      elim (has_no_unit s.assembler.ended) as (λ m. has_no_unit s.assembler.ended ≡ m → Whole kept drops most texts n calls (cond (m && s.waiting.is_over) (after_finish s) s)) [
+        | true ↦ λ m. elim s.waiting.is_over as (λ o. s.waiting.is_over ≡ o → Whole kept drops most texts n calls (cond o (after_finish s) s)) [
+          | true ↦ λ o. finish_whole s (none_waits now s.waiting o (until (no_unit_is s.assembler.ended m))) o whole
+          | false ↦ λ o. whole
+        ] refl
+        | false ↦ λ m. whole
+      ] refl
+
+  -- the first that ended is given out, where it has bytes
+  given_whole : (s : Reception) → has_bare s.assembler.ended ≡ false → Whole kept drops most texts n calls s → Whole kept drops most (texts ++ unit_texts (unit_given s)) (n + 1) calls (without_given s)
+  given_whole s some whole = by s.assembler.ended refl some
+    where
+      by : (ended : List AccessUnitValue) → s.assembler.ended ≡ ended → has_bare ended ≡ false → Whole kept drops most (texts ++ unit_texts (unit_given_of s ended)) (n + 1) calls (without_given_of s ended)
+      by [] is e = subst (λ (t : List (ℕ × List ℕ)). Whole kept drops most t (n + 1) calls s) (sym (append-nil texts))
+          (record { account = whole.account; ledger = whole.ledger; made = whole.made; counted = λ lt. whole.counted (omega (arith, lt)) })
+      by (unit ∷ units) is e = record { account = whole.account; ledger = whole.ledger; made = given_made texts (whole.account.handed ++ whole.account.earlier) s.assembler whole.made unit units is e; counted = unit_counted n calls texts (whole.account.handed ++ whole.account.earlier) s.counts (unit.timestamp, unit.bytes) (whole_with s.decoder s.assembler.state.is_avc unit (first_ended s.numbers)) few_texts whole.counted }
+
+  -- those without bytes were passed over
+  none_bare_of : (units : List AccessUnitValue) (s : Reception) → s.assembler.ended ≡ units → has_bare (without_bare_of s units).assembler.ended ≡ false
+  none_bare_of [] s is = ap has_bare is
+  none_bare_of (unit ∷ units) s is = elim (bears_nothing unit.bytes) as (λ b. bears_nothing unit.bytes ≡ b → has_bare (cond b (without_bare_of (bare_passed s unit units) units) s).assembler.ended ≡ false) [
+    | true ↦ λ e. none_bare_of units (bare_passed s unit units) refl
+    | false ↦ λ e. ap has_bare is ∙ e
+  ] refl
+
+  begun_whole : (s : Reception) → Whole kept drops most texts n calls s → Whole kept drops most texts n calls (ended_if_anew (without_bare s))
+  begun_whole s whole = anew_whole (without_bare s) (bare_whole s whole)
+
+  next_whole : (now : ℕ) (s new : Reception) (unit : Option ReceivedAccessUnitValue) → IsNext now s new unit → Whole kept drops most texts n calls s → Whole kept drops most (texts ++ unit_texts unit) (n + 1) calls new
+  next_whole now s new unit it whole =
+      let last = ended_if_over it.drained in
+      subst (λ (u : Option ReceivedAccessUnitValue). Whole kept drops most (texts ++ unit_texts u) (n + 1) calls new) (sym it.unit_is)
+      (subst (Whole kept drops most (texts ++ unit_texts (unit_given (without_bare last))) (n + 1) calls) (sym it.stands)
+      (given_whole (without_bare last) (none_bare_of last.assembler.ended last refl)
+      (bare_whole last
+      (over_whole now it.drained it.until
+      (drained_whole now (ended_if_anew (without_bare s)) it.drained it.taken (begun_whole s whole))))))
+
+  lack_whole : (now : ℕ) (s new : Reception) → IsDrainedInPart now s new → Whole kept drops most texts n calls s → Whole kept drops most texts n calls new
+  lack_whole now s new (inl same) whole = subst (Whole kept drops most texts n calls) (sym same) (bare_whole s whole)
+  lack_whole now s new (inr taken) whole = drained_whole now (ended_if_anew (without_bare s)) new taken (begun_whole s whole)
+
+  restart_whole : (s : Reception) → Whole kept drops most texts n calls s → Whole kept true (most + 1) texts n calls (restarted s)
+  restart_whole s whole =
+      let a = whole.account in
+      let l = whole.ledger in
+      let alone = packet_alone s.stray in
+      record {
+        account = ended_with a ((a.dropped ++ alone) ++ s.waiting.buffer.held);
+        made = restart_made texts (a.handed ++ a.earlier) s.assembler whole.made;
+        counted = whole.counted;
+        ledger = record {
+          exact = parts_dropped kept a.dropped alone (a.handed ++ a.earlier) s.waiting.buffer.held l.exact;
+          quiet = λ e. absurd (let bad = e in cc);
+          turn = tt;
+          before = one_stream a.streams a.handed a.earlier l.before l.turn;
+          few = let few = l.few in omega (arith, few);
+          due = tt;
+          waits = refl;
+          numbered = tt;
+        };
+      }
+
+  end_whole : (s : Reception) → Whole kept drops most texts n calls s → Whole kept drops (most + 1) texts n calls (ended_reception s)
+  end_whole s whole =
+      let l = whole.ledger in
+      record {
+        account = whole.account;
+        made = whole.made;
+        counted = whole.counted;
+        ledger = record {
+          exact = l.exact;
+          quiet = l.quiet;
+          turn = l.turn;
+          before = l.before;
+          few = let few = l.few in omega (arith, few);
+          due = l.due;
+          waits = l.waits;
+          numbered = l.numbered;
+        };
+      }
+
+  settings_whole : (config : AccessUnitConfig) (s : Reception) → Whole kept drops most texts n calls s → Whole kept drops most texts n calls (with_settings config s)
+  settings_whole config s whole =
+      let l = whole.ledger in
+      record {
+        account = whole.account;
+        made = whole.made;
+        counted = whole.counted;
+        ledger = record { exact = l.exact; quiet = l.quiet; turn = l.turn; before = l.before; few = l.few; due = l.due; waits = l.waits; numbered = l.numbered };
+      }
+
+  -- the number that is told is due where none was
+  told_ledger : (a : Account) (number : ℕ) (j : JitterState) (stray : Option Packet) → number < 65536 → Ledger kept drops most a j stray → Ledger kept drops most a (record j { buffer = begun_at number j.buffer; has_begun = true }) stray
+  told_ledger a number j stray small l = by j.buffer.due l.due l.waits
+    where
+      at : Option ℕ → JitterState
+      at due = record j { buffer = begun_at number (record j.buffer { due = due }); has_begun = true }
+
+      none_handed : (handed : Packets) → IsDueBehind None handed → IsDueBehind (Some number) handed
+      none_handed [] is = tt
+      none_handed (p ∷ handed) is = absurd (let bad = is in cc)
+
+      by : (due : Option ℕ) → IsDueBehind due a.handed → IsHeldInOrder due j.buffer.held → Ledger kept drops most a (at due) stray
+      by None due waits = record {
+        exact = l.exact;
+        quiet = l.quiet;
+        turn = l.turn;
+        before = l.before;
+        few = l.few;
+        numbered = l.numbered;
+        due = none_handed a.handed due;
+        waits = (small, subst (AreHeldInOrder number 0) (sym waits) tt);
+      }
+      by (Some d) due waits = record { exact = l.exact; quiet = l.quiet; turn = l.turn; before = l.before; few = l.few; due = due; waits = waits; numbered = l.numbered }
+
+  begin_whole : (number : ℕ) (s : Reception) → number < 65536 → Whole kept drops most texts n calls s → Whole kept drops most texts n calls (begun_reception number s)
+  begin_whole number s small whole =
+      elim (may_tell_first s.waiting) as (λ b. may_tell_first s.waiting ≡ b → Whole kept drops most texts n calls (begun_reception number s)) [
+        | true ↦ λ e. rw e (record { account = whole.account; ledger = told_ledger whole.account number s.waiting s.stray small whole.ledger; made = told_made texts (whole.account.handed ++ whole.account.earlier) s.assembler whole.made number; counted = whole.counted })
+        | false ↦ λ e. rw e whole
+      ] refl
+
+-- where it is told to be held the buffer holds it
+told_held : (s : Reception) (p : Packet) → pushes.Held ≡ reception_answer s p → push_answer s.waiting.buffer p.0 ≡ buffered.Held
+told_held s p is = by (way_of s p.0) is
+  where
+    window : (f : Bool) (answer : buffers.Pushed) → pushes.Held ≡ cond f pushes.Full (as_pushed answer) → answer ≡ buffered.Held
+    window true answer e = absurd (let bad = e in cc)
+    window false buffered.Held e = refl
+    window false (buffered.Late n) e = absurd (let bad = e in cc)
+    window false buffered.Twice e = absurd (let bad = e in cc)
+
+    by : (way : Way) → pushes.Held ≡ answer_on way s p → push_answer s.waiting.buffer p.0 ≡ buffered.Held
+    by ways.Repeat e = absurd (let bad = e in cc)
+    by ways.Far e = elim (is_behind_stray s.stray p.0) as (λ b. pushes.Held ≡ cond b pushes.Anew pushes.Stray → push_answer s.waiting.buffer p.0 ≡ buffered.Held) [
+      | true ↦ λ e. absurd (let bad = e in cc)
+      | false ↦ λ e. absurd (let bad = e in cc)
+    ] e
+    by ways.Ahead e = elim (is_near_stray s.waiting.buffer.window s.stray p.0) as (λ b. pushes.Held ≡ cond b (cond (is_full s.waiting (length p.1.payload)) pushes.Full pushes.Jumped) pushes.Stray → push_answer s.waiting.buffer p.0 ≡ buffered.Held) [
+      | true ↦ elim (is_full s.waiting (length p.1.payload)) as (λ b. pushes.Held ≡ cond b pushes.Full pushes.Jumped → push_answer s.waiting.buffer p.0 ≡ buffered.Held) [
+        | true ↦ λ e. absurd (let bad = e in cc)
+        | false ↦ λ e. absurd (let bad = e in cc)
+      ]
+      | false ↦ λ e. absurd (let bad = e in cc)
+    ] e
+    by ways.Window e = window (is_full s.waiting (length p.1.payload)) (push_answer s.waiting.buffer p.0) e
+
+-- where a packet jumps, or the stream begins anew, one waited alone
+not_window : (j : JitterState) (p : Packet) (answer : Pushed) → (answer ≡ pushes.Jumped) ⊎ (answer ≡ pushes.Anew) → answer ≡ jitter_answer j p → ⊥
+not_window j p answer either is = by (is_full j (length p.1.payload)) (push_answer j.buffer p.0) either is
+  where
+    by : (f : Bool) (a : buffers.Pushed) → (answer ≡ pushes.Jumped) ⊎ (answer ≡ pushes.Anew) → answer ≡ cond f pushes.Full (as_pushed a) → ⊥
+    by true a (inl e) is = let bad = sym e ∙ is in cc
+    by true a (inr e) is = let bad = sym e ∙ is in cc
+    by false buffered.Held (inl e) is = let bad = sym e ∙ is in cc
+    by false buffered.Held (inr e) is = let bad = sym e ∙ is in cc
+    by false (buffered.Late n) (inl e) is = let bad = sym e ∙ is in cc
+    by false (buffered.Late n) (inr e) is = let bad = sym e ∙ is in cc
+    by false buffered.Twice (inl e) is = let bad = sym e ∙ is in cc
+    by false buffered.Twice (inr e) is = let bad = sym e ∙ is in cc
+
+not_of : (answer other : Pushed) → (answer ≡ pushes.Jumped) ⊎ (answer ≡ pushes.Anew) → answer ≡ other → (other ≡ pushes.Jumped → ⊥) → (other ≡ pushes.Anew → ⊥) → ⊥
+not_of answer other (inl e) is jumped anew = jumped (sym is ∙ e)
+not_of answer other (inr e) is jumped anew = anew (sym is ∙ e)
+
+one_alone : (s : Reception) (p : Packet) (answer : Pushed) → (answer ≡ pushes.Jumped) ⊎ (answer ≡ pushes.Anew) → answer ≡ reception_answer s p → s.stray ≡ None → ⊥
+one_alone s p answer either is none_is = by (way_of s p.0) is
+  where
+    by : (way : Way) → answer ≡ answer_on way s p → ⊥
+    by ways.Repeat e = not_of answer pushes.Twice either e (λ bad. cc) (λ bad. cc)
+    by ways.Far e = not_of answer pushes.Stray either (e ∙ ap (λ (x : Option Packet). cond (is_behind_stray x p.0) pushes.Anew pushes.Stray) none_is) (λ bad. cc) (λ bad. cc)
+    by ways.Ahead e = not_of answer pushes.Stray either
+        (e ∙ ap (λ (x : Option Packet). cond (is_near_stray s.waiting.buffer.window x p.0) (cond (is_full s.waiting (length p.1.payload)) pushes.Full pushes.Jumped) pushes.Stray) none_is) (λ bad. cc) (λ bad. cc)
+    by ways.Window e = not_window s.waiting p answer either e
+
+-- its answer is counted
+pushed_count : (calls : List ReceiverCall) (now : ℕ) (s : Reception) (p : Packet) (answer : Pushed) (whole : WholeOf calls s) →
+    Counted (length (PushCall now p answer ∷ calls)) (PushCall now p answer ∷ calls) (texts_given calls) (whole.account.handed ++ whole.account.earlier) (after_reception now s p answer).counts
+pushed_count calls now s p answer whole = by answer
+  where
+    small : length (whole.account.handed ++ whole.account.earlier) + call_count tells_late calls ≤ length calls
+    small =
+        let bound = kept_few calls in
+        let few = handed_kept (kept_packets calls) (whole.account.dropped ++ packet_alone s.stray) (whole.account.handed ++ whole.account.earlier) s.waiting.buffer.held whole.ledger.exact in
+        omega (arith, bound, few)
+
+    by : (answer : Pushed) → Counted (length (PushCall now p answer ∷ calls)) (PushCall now p answer ∷ calls) (texts_given calls) (whole.account.handed ++ whole.account.earlier) (after_reception now s p answer).counts
+    by pushes.Held = λ lt. push_counted calls (whole.account.handed ++ whole.account.earlier) now p s.counts pushes.Held small whole.counted (omega (arith, lt))
+    by (pushes.Late n) = λ lt. push_counted calls (whole.account.handed ++ whole.account.earlier) now p s.counts (pushes.Late n) small whole.counted (omega (arith, lt))
+    by pushes.Twice = λ lt. push_counted calls (whole.account.handed ++ whole.account.earlier) now p s.counts pushes.Twice small whole.counted (omega (arith, lt))
+    by pushes.Full = λ lt. push_counted calls (whole.account.handed ++ whole.account.earlier) now p s.counts pushes.Full small whole.counted (omega (arith, lt))
+    by pushes.Stray = λ lt. push_counted calls (whole.account.handed ++ whole.account.earlier) now p s.counts pushes.Stray small whole.counted (omega (arith, lt))
+    by pushes.Jumped = λ lt. push_counted calls (whole.account.handed ++ whole.account.earlier) now p s.counts pushes.Jumped small whole.counted (omega (arith, lt))
+    by pushes.Anew = same_counted (length (PushCall now p pushes.Anew ∷ calls)) (PushCall now p pushes.Anew ∷ calls) (texts_given calls) (whole.account.handed ++ whole.account.earlier) (counted_push s.counts pushes.Anew) (length s.waiting.buffer.held)
+        (λ lt. push_counted calls (whole.account.handed ++ whole.account.earlier) now p s.counts pushes.Anew small whole.counted (omega (arith, lt)))
+
+-- a packet that comes is put aside
+aside_whole : (calls : List ReceiverCall) (now : ℕ) (s : Reception) (p : Packet) (answer : Pushed) → p.0 < 65536 → answer ≡ reception_answer s p → WholeOf calls s → WholeOf (PushCall now p answer ∷ calls) (after_reception now s p answer)
+aside_whole calls now s p pushes.Held small is whole =
+    let calls_then = PushCall now p pushes.Held ∷ calls in
+    let asides = pushed_count calls now s p pushes.Held whole in
+    record {
+      account = whole.account;
+      made = whole.made;
+      counted = asides;
+      ledger = held_after (kept_packets calls) (list_any may_drop calls) (call_count ends_stream calls) whole.account now s.waiting s.stray p small whole.ledger (told_held s p is);
+    }
+aside_whole calls now s p (pushes.Late n) small is whole =
+    let calls_then = PushCall now p (pushes.Late n) ∷ calls in
+    let asides = pushed_count calls now s p (pushes.Late n) whole in
+    record { account = whole.account; ledger = whole.ledger; made = whole.made; counted = asides }
+aside_whole calls now s p pushes.Twice small is whole =
+    let calls_then = PushCall now p pushes.Twice ∷ calls in
+    let asides = pushed_count calls now s p pushes.Twice whole in
+    record { account = whole.account; ledger = whole.ledger; made = whole.made; counted = asides }
+aside_whole calls now s p pushes.Full small is whole =
+    let calls_then = PushCall now p pushes.Full ∷ calls in
+    let asides = pushed_count calls now s p pushes.Full whole in
+    record { account = whole.account; ledger = whole.ledger; made = whole.made; counted = asides }
+aside_whole calls now s p pushes.Stray small is whole =
+    let calls_then = PushCall now p pushes.Stray ∷ calls in
+    let asides = pushed_count calls now s p pushes.Stray whole in
+    record {
+      account = record whole.account { dropped = whole.account.dropped ++ packet_alone s.stray };
+      made = whole.made;
+      counted = asides;
+      ledger = stray_after (kept_packets calls) (list_any may_drop calls) (call_count ends_stream calls) whole.account now s.waiting s.stray p small whole.ledger;
+    }
+aside_whole calls now s p pushes.Jumped small is whole =
+    let calls_then = PushCall now p pushes.Jumped ∷ calls in
+    let asides = pushed_count calls now s p pushes.Jumped whole in
+    let it = jumped_after (kept_packets calls) (list_any may_drop calls) (call_count ends_stream calls) whole.account now s.waiting s.stray p small whole.ledger (one_alone s p pushes.Jumped (inl refl) is) in
+    record { account = it.account; ledger = it.ledger; made = subst (λ (packets : Packets). Made (texts_given calls) packets s.assembler) (sym it.same) whole.made; counted = subst (λ (packets : Packets). Counted (length calls_then) calls_then (texts_given calls) packets (after_reception now s p pushes.Jumped).counts) (sym it.same) asides }
+aside_whole calls now s p pushes.Anew small is whole =
+    let calls_then = PushCall now p pushes.Anew ∷ calls in
+    let asides = pushed_count calls now s p pushes.Anew whole in
+    let it = anew_after (kept_packets calls) (list_any may_drop calls) (call_count ends_stream calls) whole.account now s.waiting s.stray p small whole.ledger (one_alone s p pushes.Anew (inr refl) is) in
+    record { account = it.account; ledger = it.ledger; made = subst (λ (packets : Packets). Made (texts_given calls) packets s.assembler) (sym it.same) whole.made; counted = subst (λ (packets : Packets). Counted (length calls_then) calls_then (texts_given calls) packets (after_reception now s p pushes.Anew).counts) (sym it.same) asides }
+
+push_whole : (calls : List ReceiverCall) (now : ℕ) (s new : Reception) (p : Packet) (answer : Pushed) → p.0 < 65536 → answer ≡ reception_answer s p → IsPushed now s p answer new → WholeOf calls s → WholeOf (PushCall now p answer ∷ calls) new
+push_whole calls now s new p answer small is it whole =
+    let calls_then = PushCall now p answer ∷ calls in
+    let aside = aside_whole calls now s p answer small is whole in
+    elim (is_taken_at_once s p) as (λ b. MatchBool b (IsDueTaken now (after_reception now s p answer) new) (new ≡ after_reception now s p answer) → WholeOf calls_then new) [
+      | true ↦ λ taken. due_whole (kept_packets calls_then) (list_any may_drop calls_then) (call_count ends_stream calls_then) (texts_given calls_then) (length calls_then) calls_then (kept_few calls_then) (texts_few calls_then) now (after_reception now s p answer) new taken aside
+      | false ↦ λ stands. subst (WholeOf calls_then) (sym stands) aside
+    ] it
+
+-- so after a call that tells nothing of a packet
+again : (call : ReceiverCall) (calls : List ReceiverCall) (texts : List (ℕ × List ℕ)) (packets : Packets) (c : Counts) (n : ℕ) → n ≤ length calls + 1 →
+    tells_twice call ≡ false → tells_stray call ≡ false → tells_anew call ≡ false → tells_late call ≡ false → Counted n calls texts packets c → Counted (length (call ∷ calls)) (call ∷ calls) texts packets c
+again call calls texts packets c n le twice stray anew late counted = λ lt.
+    let it = counted (omega (arith, lt, le)) in
+    record {
+      twice = it.twice ∙ sym (rw twice refl);
+      stray = it.stray ∙ sym (rw stray refl);
+      anew = it.anew ∙ sym (rw anew refl);
+      units = it.units;
+      handed = it.handed ∙ ap (λ (m : ℕ). length packets + m) (sym (rw late refl));
+    }
+
+call_whole : (call : ReceiverCall) (calls : List ReceiverCall) (s new : Reception) → IsCall call s new → WholeOf calls s → WholeOf (call ∷ calls) new
+call_whole (PushCall now p answer) calls s new it whole = push_whole calls now s new p answer it.0 it.1 it.2 whole
+call_whole (BackCall p reason) calls s new it whole =
+    let a = whole.account in
+    let bound = kept_few calls in
+    let few = handed_kept (kept_packets calls) (a.dropped ++ packet_alone s.stray) (a.handed ++ a.earlier) s.waiting.buffer.held whole.ledger.exact in
+    subst (WholeOf (BackCall p reason ∷ calls)) (sym it.1) (record {
+      account = whole.account;
+      ledger = whole.ledger;
+      made = whole.made;
+      counted = λ lt. back_counted calls (a.handed ++ a.earlier) p s.counts reason (omega (arith, bound, few)) whole.counted (omega (arith, lt));
+    })
+call_whole (NextCall now None) calls s new it whole =
+    let w = next_whole (kept_packets calls) (list_any may_drop calls) (call_count ends_stream calls) (texts_given calls) (length calls) calls (kept_few calls) (texts_few calls) now s new None it whole in
+    let texts_same = append-nil (texts_given calls) in
+    record {
+      account = w.account;
+      ledger = w.ledger;
+      made = subst (λ (t : List (ℕ × List ℕ)). Made t (w.account.handed ++ w.account.earlier) new.assembler) texts_same w.made;
+      counted = again (NextCall now None) calls (texts_given calls) (w.account.handed ++ w.account.earlier) new.counts (length calls + 1) (omega arith) refl refl refl refl
+          (subst (λ (t : List (ℕ × List ℕ)). Counted (length calls + 1) calls t (w.account.handed ++ w.account.earlier) new.counts) texts_same w.counted);
+    }
+call_whole (NextCall now (Some unit)) calls s new it whole =
+    let w = next_whole (kept_packets calls) (list_any may_drop calls) (call_count ends_stream calls) (texts_given calls) (length calls) calls (kept_few calls) (texts_few calls) now s new (Some unit) it whole in
+    record {
+      account = w.account;
+      ledger = w.ledger;
+      made = w.made;
+      counted = again (NextCall now (Some unit)) calls (texts_given calls ++ (unit.timestamp, unit.bytes) ∷ []) (w.account.handed ++ w.account.earlier) new.counts (length calls + 1) (omega arith) refl refl refl refl w.counted;
+    }
+call_whole FinishCall calls s new it whole =
+    let w = end_whole (kept_packets calls) (list_any may_drop calls) (call_count ends_stream calls) (texts_given calls) (length calls) calls (kept_few calls) (texts_few calls) s whole in
+    subst (WholeOf (FinishCall ∷ calls)) (sym it) (record {
+      account = w.account;
+      ledger = w.ledger;
+      made = w.made;
+      counted = again FinishCall calls (texts_given calls) (w.account.handed ++ w.account.earlier) s.counts (length calls) (omega arith) refl refl refl refl w.counted;
+    })
+call_whole RestartCall calls s new it whole =
+    let w = restart_whole (kept_packets calls) (list_any may_drop calls) (call_count ends_stream calls) (texts_given calls) (length calls) calls (kept_few calls) (texts_few calls) s whole in
+    subst (WholeOf (RestartCall ∷ calls)) (sym it) (record {
+      account = w.account;
+      ledger = w.ledger;
+      made = w.made;
+      counted = again RestartCall calls (texts_given calls) (w.account.handed ++ w.account.earlier) s.counts (length calls) (omega arith) refl refl refl refl w.counted;
+    })
+call_whole (SettingsCall config) calls s new it whole =
+    let w = settings_whole (kept_packets calls) (list_any may_drop calls) (call_count ends_stream calls) (texts_given calls) (length calls) calls (kept_few calls) (texts_few calls) config s whole in
+    subst (WholeOf (SettingsCall config ∷ calls)) (sym it) (record {
+      account = w.account;
+      ledger = w.ledger;
+      made = w.made;
+      counted = again (SettingsCall config) calls (texts_given calls) (w.account.handed ++ w.account.earlier) s.counts (length calls) (omega arith) refl refl refl refl w.counted;
+    })
+call_whole (LackCall now) calls s new it whole =
+    let w = lack_whole (kept_packets calls) (list_any may_drop calls) (call_count ends_stream calls) (texts_given calls) (length calls) calls (kept_few calls) (texts_few calls) now s new it whole in
+    record {
+      account = w.account;
+      ledger = w.ledger;
+      made = w.made;
+      counted = again (LackCall now) calls (texts_given calls) (w.account.handed ++ w.account.earlier) new.counts (length calls) (omega arith) refl refl refl refl w.counted;
+    }
+call_whole (BeginCall number) calls s new it whole =
+    let begun = begin_whole (kept_packets calls) (list_any may_drop calls) (call_count ends_stream calls) (texts_given calls) (length calls) calls (kept_few calls) (texts_few calls) number s it.0 whole in
+    let w = subst (Whole (kept_packets calls) (list_any may_drop calls) (call_count ends_stream calls) (texts_given calls) (length calls) calls) (sym it.1) begun in
+    record {
+      account = w.account;
+      ledger = w.ledger;
+      made = w.made;
+      counted = again (BeginCall number) calls (texts_given calls) (w.account.handed ++ w.account.earlier) new.counts (length calls) (omega arith) refl refl refl refl w.counted;
+    }
+
+calls_whole : (config : AccessUnitConfig) (state : DepacketizerState) (calls : List ReceiverCall) (s : Reception) → AreReceiverCalls (fresh_reception config state) calls s → WholeOf calls s
+calls_whole config state calls s no_call = record {
+  account = no_account;
+  made = record { gone = []; made = new_assembler state; texts_are = refl };
+  counted = λ lt. record { twice = refl; stray = refl; anew = refl; units = refl; handed = refl };
+  ledger = record { exact = IsPermutation-refl []; quiet = λ e. refl; turn = tt; before = no_stream; few = omega arith; due = tt; waits = refl; numbered = tt };
+}
+calls_whole config state calls s (one_call {call = call} {before = before} {t = t} others it) = call_whole call before t s it (calls_whole config state before t others)
+
+pub calls_accounted : (config : AccessUnitConfig) (state : DepacketizerState) (calls : List ReceiverCall) (s : Reception) → AreReceiverCalls (fresh_reception config state) calls s → IsAccounted calls s
+calls_accounted config state calls s are =
+    let whole = calls_whole config state calls s are in
+    let l = whole.ledger in
+    record {
+      account = whole.account;
+      given = record { gone = whole.made.gone; made = whole.made.made; texts = whole.made.texts_are };
+      counts = λ lt. let it = whole.counted lt in record { twice = it.twice; stray = it.stray; anew = it.anew; units = it.units; handed = it.handed };
+      each = record { exact = l.exact; none_dropped = l.quiet };
+      order = record { turn = l.turn; before = l.before; few = let few = l.few in omega (arith, few); due = l.due; waits = l.waits };
+    }

@@ -1,0 +1,216 @@
+-- What becomes of the packets that are given to a receiver, by the whole list of calls (RFC 3550, 5.1,
+-- A.1; ours).
+use Rattle.std.specs.Prelude.{◌≡◌, ℕ, ◌+◌, ◌≤◌, ◌<◌, ◌^◌, Bool, true, false, if◌then◌else◌, List, [], ◌∷◌, ◌++◌, length, Option, Some, None, Result, Err, IsPermutation}
+use Rattle.std.specs.List.{list_any}
+use Rattle.h26x_core.specs.declared.error.PacketError.{PacketError}
+use Rattle.h26x_core.specs.declared.error.PacketError.TheVariants.{OutOfMemory}
+use Rattle.h26x_model.specs.Receive.DepacketizerState.{DepacketizerState}
+use Rattle.h26x_receiver.specs.declared.received.Received.{Received}
+use Rattle.h26x_assembler.specs.AccessUnit.{AccessUnitValue, Assembly, none_open, open_assembly, after_ending, after_finishing}
+use Rattle.h26x_core.specs.Sequence.{next_sequence_number, distance_ahead}
+use Rattle.h26x_reorder.specs.Rtp.{RtpBody}
+use Rattle.h26x_reorder.specs.ReorderBuffer.{IsHeldInOrder}
+use Rattle.h26x_access_units.specs.declared.config.AccessUnitConfig.{AccessUnitConfig}
+use Rattle.h26x_access_units.specs.declared.counts.Counts.{Counts}
+use Rattle.h26x_access_units.specs.declared.framing.Framing.{Framing}
+use Rattle.h26x_access_units.specs.declared.pushed.Pushed.{Pushed}
+use Rattle.h26x_access_units.specs.declared.pushed.Pushed.TheVariants as pushes
+use Rattle.h26x_access_units.specs.declared.pushed.NotPushedReason.{NotPushedReason}
+use Rattle.h26x_access_units.specs.declared.pushed.NotPushedReason.TheVariants as reasons
+use Rattle.h26x_access_units.specs.Numbers.{bears_nothing}
+use Rattle.h26x_access_units.specs.Pushed.{is_kept, IsNotPushedReason}
+use Rattle.h26x_access_units.specs.ReceivedAccessUnit.{ReceivedAccessUnitValue}
+use Rattle.h26x_access_units.specs.Reception.{Reception, IsAnswerTo, begun_for, believed, assembly_after, marker_forgotten, reception_answer, refused_reception, ended_reception, restarted, with_settings, begun_reception, IsPushed, IsNext, IsDrainedInPart}
+
+-- a call of a receiver, with its tick and what it answered: `push`; `push_held` whose packet came back;
+-- `next`; `next` for which memory lacked; `finish`; `restart`; `set_config`; `begin_at`
+pub data ReceiverCall : Type 0 where
+  PushCall : (now : ℕ) (packet : ℕ × RtpBody) (answer : Pushed) → ReceiverCall
+  BackCall : (packet : ℕ × RtpBody) (reason : NotPushedReason) → ReceiverCall
+  NextCall : (now : ℕ) (unit : Option ReceivedAccessUnitValue) → ReceiverCall
+  LackCall : (now : ℕ) → ReceiverCall
+  FinishCall : ReceiverCall
+  RestartCall : ReceiverCall
+  SettingsCall : (config : AccessUnitConfig) → ReceiverCall
+  BeginCall : (number : ℕ) → ReceiverCall
+
+-- what a call makes of a receiver
+abbrev pub IsCall : ReceiverCall → Reception → Reception → Type 0
+IsCall (PushCall now p answer) s new = (p.0 < 2 ^ 16) × (answer ≡ reception_answer s p)
+    × IsPushed now s p answer new
+IsCall (BackCall p reason) s new = IsNotPushedReason (reception_answer s p) reason
+    × (new ≡ refused_reception s reason)
+IsCall (NextCall now unit) s new = IsNext now s new unit
+IsCall (LackCall now) s new = IsDrainedInPart now s new
+IsCall FinishCall s new = new ≡ ended_reception s
+IsCall RestartCall s new = new ≡ restarted s
+IsCall (SettingsCall config) s new = new ≡ with_settings config s
+IsCall (BeginCall number) s new = (number < 2 ^ 16) × (new ≡ begun_reception number s)
+
+-- what calls make of it, any whatever, the last one first
+pub data AreReceiverCalls (s : Reception) : List ReceiverCall → Reception → Type 0 where
+  no_call : AreReceiverCalls s [] s
+  one_call : {call : ReceiverCall} {before : List ReceiverCall} {t new : Reception} →
+      AreReceiverCalls s before t → IsCall call t new → AreReceiverCalls s (call ∷ before) new
+
+-- the packets that were pushed and not told Late, Twice or Full, the last one first
+abbrev pub kept_packets : List ReceiverCall → List (ℕ × RtpBody)
+kept_packets [] = []
+kept_packets (PushCall now p answer ∷ before) =
+    if is_kept answer then p ∷ kept_packets before else kept_packets before
+kept_packets (call ∷ before) = kept_packets before
+
+-- whether packets that were kept may be dropped by a call or since: one waits alone, and it or those
+-- that wait may be left for the others, or `restart` drops all
+abbrev pub may_drop : ReceiverCall → Bool
+may_drop (PushCall now p pushes.Stray) = true
+may_drop RestartCall = true
+may_drop call = false
+
+-- whether a stream ends by a call: its numbers begin anew
+abbrev pub ends_stream : ReceiverCall → Bool
+ends_stream (PushCall now p pushes.Anew) = true
+ends_stream FinishCall = true
+ends_stream RestartCall = true
+ends_stream call = false
+
+-- whether a call tells that a packet came twice, that it waits alone, that the stream begins anew with
+-- it, or that it is late
+abbrev pub tells_twice : ReceiverCall → Bool
+tells_twice (PushCall now p pushes.Twice) = true
+tells_twice (BackCall p reasons.Twice) = true
+tells_twice call = false
+
+abbrev pub tells_stray : ReceiverCall → Bool
+tells_stray (PushCall now p pushes.Stray) = true
+tells_stray call = false
+
+abbrev pub tells_anew : ReceiverCall → Bool
+tells_anew (PushCall now p pushes.Anew) = true
+tells_anew call = false
+
+abbrev pub tells_late : ReceiverCall → Bool
+tells_late (PushCall now p (pushes.Late n)) = true
+tells_late (BackCall p (reasons.Late n)) = true
+tells_late call = false
+
+-- how many calls do
+abbrev pub call_count : (ReceiverCall → Bool) → List ReceiverCall → ℕ
+call_count test [] = 0
+call_count test (call ∷ before) =
+    if test call then call_count test before + 1 else call_count test before
+
+-- What became of the packets that were kept, the last one first: those of the stream that were handed
+-- to the assembler of access units, those of so many streams before, and those that were dropped.
+pub record Account : Type 0 where
+  pub handed : List (ℕ × RtpBody)
+  pub earlier : List (ℕ × RtpBody)
+  pub streams : ℕ
+  pub dropped : List (ℕ × RtpBody)
+
+-- none was kept
+abbrev pub no_account : Account
+no_account = record { handed = []; earlier = []; streams = 0; dropped = [] }
+
+-- the packet that waits alone, if one does
+abbrev pub packet_alone : Option (ℕ × RtpBody) → List (ℕ × RtpBody)
+packet_alone None = []
+packet_alone (Some stray) = stray ∷ []
+
+-- Each packet that was kept was handed on, waits, or was dropped, and none twice; none is dropped
+-- where no call drops one.
+pub record IsEachAccounted (calls : List ReceiverCall) (s : Reception) (a : Account) : Type 0 where
+  pub exact : IsPermutation (kept_packets calls) ((a.dropped ++ packet_alone s.stray)
+      ++ ((a.handed ++ a.earlier) ++ s.waiting.buffer.held))
+  pub none_dropped : list_any may_drop calls ≡ false → a.dropped ++ packet_alone s.stray ≡ []
+
+-- packets, the last one first, each with a number ahead of the one before, by half of the circle at
+-- most (RFC 3550, 5.1)
+abbrev pub AreInTurnBack : List (ℕ × RtpBody) → Type 0
+AreInTurnBack [] = Unit {0}
+AreInTurnBack (p ∷ []) = Unit {0}
+AreInTurnBack (p ∷ q ∷ before) = (distance_ahead (next_sequence_number q.0) p.0 < 2 ^ 15)
+    × AreInTurnBack (q ∷ before)
+
+-- so it is of so many streams, one after the other
+pub data AreStreams : ℕ → List (ℕ × RtpBody) → Type 0 where
+  no_stream : AreStreams 0 []
+  one_stream : (n : ℕ) (stream before : List (ℕ × RtpBody)) → AreStreams n before →
+      AreInTurnBack stream → AreStreams (n + 1) (stream ++ before)
+
+-- the number that is due is the one behind the last packet that was handed on
+abbrev pub IsDueBehind : Option ℕ → List (ℕ × RtpBody) → Type 0
+IsDueBehind due [] = Unit {0}
+IsDueBehind due (p ∷ before) = due ≡ Some (next_sequence_number p.0)
+
+-- Packets are handed on in the order of their numbers, in as many streams as end; those that wait are
+-- in order too, and ahead of the last.
+pub record AreHandedInOrder (calls : List ReceiverCall) (s : Reception) (a : Account) : Type 0 where
+  pub turn : AreInTurnBack a.handed
+  pub before : AreStreams a.streams a.earlier
+  pub few : a.streams ≤ call_count ends_stream calls
+  pub due : IsDueBehind s.waiting.buffer.due a.handed
+  pub waits : IsHeldInOrder s.waiting.buffer.due s.waiting.buffer.held
+
+-- What an assembler of access units is that took these packets, the last one first: it is new; a packet
+-- was answered so, with its marker where that is believed; the access unit that is open ended by
+-- itself, or with the stream; the number of the first packet was told; or all was dropped that had not
+-- been given out.
+pub data IsAssemblerOf : List (ℕ × RtpBody) → Assembly → Type 0 where
+  new_assembler : (state : DepacketizerState) →
+      IsAssemblerOf [] (open_assembly state None none_open [])
+  one_taken : (most limit : ℕ) (framing : Framing) (p : ℕ × RtpBody)
+      (answer : Result Received PacketError) (before : List (ℕ × RtpBody)) (a : Assembly) →
+      IsAssemblerOf before a → IsAnswerTo most (begun_for a p) (believed framing p) answer →
+      (answer ≡ Err OutOfMemory → ⊥) → IsAssemblerOf (p ∷ before)
+      (marker_forgotten (assembly_after most limit (begun_for a p) (believed framing p) answer))
+  unit_ended : (before : List (ℕ × RtpBody)) (a : Assembly) → IsAssemblerOf before a →
+      IsAssemblerOf before (after_ending a)
+  stream_ended : (before : List (ℕ × RtpBody)) (a : Assembly) → IsAssemblerOf before a →
+      IsAssemblerOf before (after_finishing a)
+  number_told : (number : ℕ) (before : List (ℕ × RtpBody)) (a : Assembly) →
+      IsAssemblerOf before a → IsAssemblerOf before (record a { expected = Some number })
+  rest_dropped : (given rest : List AccessUnitValue) (before : List (ℕ × RtpBody))
+      (a : Assembly) → IsAssemblerOf before a → a.ended ≡ given ++ rest →
+      IsAssemblerOf before (open_assembly a.state None none_open given)
+
+-- the access units that `next` gave out, by their timestamps and bytes, in that order
+abbrev pub texts_given : List ReceiverCall → List (ℕ × List ℕ)
+texts_given [] = []
+texts_given (NextCall now (Some unit) ∷ before) =
+    texts_given before ++ (unit.timestamp, unit.bytes) ∷ []
+texts_given (call ∷ before) = texts_given before
+
+-- those that have bytes
+abbrev pub texts_of : List AccessUnitValue → List (ℕ × List ℕ)
+texts_of [] = []
+texts_of (unit ∷ units) = if bears_nothing unit.bytes then texts_of units
+    else (unit.timestamp, unit.bytes) ∷ texts_of units
+
+-- Of the access units that an assembler brings of the packets that were handed on to it, these are
+-- gone, and those that ended since are left; and what `next` gave out are those gone that have bytes,
+-- each once, in that order.
+pub record AreGivenAssembled (calls : List ReceiverCall) (s : Reception) (a : Account) : Type 0 where
+  pub gone : List AccessUnitValue
+  pub made : IsAssemblerOf (a.handed ++ a.earlier)
+      (record s.assembler { ended = gone ++ s.assembler.ended })
+  pub texts : texts_given calls ≡ texts_of gone
+
+-- The counts are exact: of packets that came twice, or waited alone, of streams that began anew, and of
+-- access units that were given out; and each packet that was handed on is counted once, as one that was
+-- taken, skipped or refused, that bears no unit, or that is late, with those that were told late.
+pub record AreCountsExact (calls : List ReceiverCall) (c : Counts) (a : Account) : Type 0 where
+  pub twice : c.twice ≡ call_count tells_twice calls
+  pub stray : c.stray ≡ call_count tells_stray calls
+  pub anew : c.anew ≡ call_count tells_anew calls
+  pub units : c.units ≡ length (texts_given calls)
+  pub handed : c.taken + c.skipped + c.refused + c.no_unit + c.late
+      ≡ length (a.handed ++ a.earlier) + call_count tells_late calls
+
+-- all of this; the counts where fewer calls were made than they go to
+pub record IsAccounted (calls : List ReceiverCall) (s : Reception) : Type 0 where
+  pub account : Account
+  pub each : IsEachAccounted calls s account
+  pub order : AreHandedInOrder calls s account
+  pub given : AreGivenAssembled calls s account
+  pub counts : length calls < 2 ^ 64 → AreCountsExact calls s.counts account
