@@ -34,6 +34,7 @@ mod shown;
 mod stored;
 mod take_all;
 mod threads;
+mod unit_rows;
 mod words;
 
 use crate::{CodecExtra, Depacketizer, PacketError, Packetizer};

@@ -86,7 +86,12 @@ from .errors import (
     ShortPacket,
     StapATooLong,
     StreamError,
+    UnitForbidden,
+    UnitOfPacketType,
+    UnitRefused,
     UnitsError,
+    UnitTooLong,
+    UnitWithoutHeader,
     UnknownCodec,
     WrongEnd,
 )
@@ -100,7 +105,7 @@ from .look import (
     set_lowest_header,
     units,
 )
-from .packetizer import Packetizer
+from .packetizer import Packetizer, Packing
 from .profile import (
     H264Level,
     H264Profile,
@@ -188,6 +193,7 @@ __all__ = [
     "Outcome",
     "PacketError",
     "Packetizer",
+    "Packing",
     "ParallelTool",
     "ParametersError",
     "Part",
@@ -229,6 +235,11 @@ __all__ = [
     "ShownPacket",
     "StapATooLong",
     "StreamError",
+    "UnitForbidden",
+    "UnitOfPacketType",
+    "UnitRefused",
+    "UnitTooLong",
+    "UnitWithoutHeader",
     "UnitsError",
     "UnknownCodec",
     "WrongEnd",
