@@ -39,6 +39,7 @@ void check_cutting(struct tally *t);
 void check_profiles(struct tally *t);
 void check_sdp(struct tally *t);
 void check_answer_rows(struct tally *t);
+void check_unit_rows(struct tally *t);
 void check_optional(struct tally *t);
 
 /* Compares the packets that a packetizer holds, so many, which `packets` names with '|' between

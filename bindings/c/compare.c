@@ -34,6 +34,7 @@
     X(packetizer_clone) X(packetizer_set_numbers) X(packetizer_set_max_size)                       \
     X(packetizer_set_lowest_header) X(packetize)                                                   \
     X(packetize_unit) X(packetize_into) X(packets_size) X(packetize_unit_into) X(packet_count)     \
+    X(packetizer_set_packing) X(packetize_units) X(packetize_units_into) X(units_size)             \
     X(packet_len) X(packets_len) X(packet_copy) X(packets_copy) X(depacketizer_clone)              \
     X(depacketizer_same) X(depacketizer_set_numbers) X(depacketize) X(written_copy) X(give_up_run) \
     X(receiver_clone) X(receiver_set_numbers) X(receiver_set_avc) X(receive) X(receiver_restart)   \
@@ -135,14 +136,15 @@ static enum call draw_call(const struct held *h)
 {
     static const enum call often[] = {CALL_packetize,   CALL_packetize_unit,      CALL_packetize_into,
                                       CALL_depacketize, CALL_packetize_unit_into, CALL_receive,
-                                      CALL_depacketize, CALL_packets_copy,        CALL_receive};
+                                      CALL_depacketize, CALL_packets_copy,        CALL_receive,
+                                      CALL_packetize_units, CALL_packetize_units_into};
     if (h->kind == SDP && !one_in(4))
         return CALL_sdp_answer + below(CALLS - CALL_sdp_answer);
     static const enum call often_of_units[] = {CALL_access_units_push, CALL_access_units_push,
                                                CALL_access_units_next};
     const enum call call = one_in(2) ? (enum call)below(CALLS)
         : h->kind == ACCESS_UNITS    ? often_of_units[below(3)]
-                                     : often[below(9)];
+                                     : often[below(11)];
     if (call >= CALL_packetizer_clone && h->kind == NONE)
         return one_in(5) ? CALL_sdp_read : CALL_packetizer_new + below(4);
     return call;
@@ -154,6 +156,9 @@ static void draw_input(enum call call, uint32_t codec)
     case CALL_packetize:
     case CALL_packetize_into:
     case CALL_packets_size:
+    case CALL_packetize_units:
+    case CALL_packetize_units_into:
+    case CALL_units_size:
     case CALL_next_unit:
     case CALL_sdp_of_payload:
     case CALL_fits_single_units:
@@ -315,6 +320,7 @@ static uint64_t sends(int s, const struct drawn *d, struct answer *a, struct out
     uint8_t *to = d->has_to ? a->to : NULL;
     size_t *ends = d->has_ends ? a->ends : NULL;
     size_t *count = WANTED(0, &o->count), *size = WANTED(1, &o->size);
+    h26x_refusal *why = WANTED(3, &o->why);
     switch (d->call) {
     case CALL_packetizer_set_numbers:
         return l->packetizer_set_numbers(P, d->numbers);
@@ -335,6 +341,16 @@ static uint64_t sends(int s, const struct drawn *d, struct answer *a, struct out
     case CALL_packets_size:
         return l->packets_size(P, d->mtu, d->bytes, d->len,
                                d->y % 100 == 0 ? SIZE_MAX / (1 + d->z % 4) : d->headroom, count, size);
+    case CALL_packetizer_set_packing:
+        return l->packetizer_set_packing(P, d->x % 6);
+    case CALL_packetize_units:
+        return l->packetize_units(P, d->mtu, d->bytes, d->len, count, why);
+    case CALL_packetize_units_into:
+        return l->packetize_units_into(P, d->mtu, d->bytes, d->len, d->headroom, to, d->room, ends,
+                                       d->ends_room, count, size, why);
+    case CALL_units_size:
+        return l->units_size(P, d->mtu, d->bytes, d->len,
+                             d->y % 100 == 0 ? SIZE_MAX / (1 + d->z % 4) : d->headroom, count, size, why);
     case CALL_packet_count:
         return l->packet_count(P);
     case CALL_packet_len:

@@ -366,6 +366,56 @@ static void check_packets_size(void)
                                given.other_value, given.first, given.second));
 }
 
+STUB(packetize_units);
+uint32_t proved_packetize_units(h26x_packetizer *p, size_t mtu, const uint8_t *access_unit,
+                                size_t access_unit_len, size_t *count, h26x_refusal *why)
+{
+    is_output(why, given.why);
+    return proved_packetize(p, mtu, access_unit, access_unit_len, count);
+}
+
+static void check_packetize_units(void)
+{
+    give(IN | FIRST | WHY);
+    hands_on(h26x_packetize_units(&packetizer, given.value, given.in.at, given.in.len, given.first,
+                                  given.why));
+}
+
+STUB(packetize_units_into);
+uint32_t proved_packetize_units_into(h26x_packetizer *p, size_t mtu, const uint8_t *access_unit,
+                                     size_t access_unit_len, size_t headroom, uint8_t *to,
+                                     size_t room, size_t *ends, size_t ends_room, size_t *count,
+                                     size_t *size, h26x_refusal *why)
+{
+    is_output(why, given.why);
+    return proved_packetize_into(p, mtu, access_unit, access_unit_len, headroom, to, room, ends,
+                                 ends_room, count, size);
+}
+
+static void check_packetize_units_into(void)
+{
+    give(IN | TO | ENDS | FIRST | SECOND | WHY);
+    hands_on(h26x_packetize_units_into(&packetizer, given.value, given.in.at, given.in.len,
+                                       given.other_value, given.to.at, given.to.len, given.ends,
+                                       given.ends_room, given.first, given.second, given.why));
+}
+
+STUB(units_size);
+uint32_t proved_units_size(const h26x_packetizer *p, size_t mtu, const uint8_t *access_unit,
+                           size_t access_unit_len, size_t headroom, size_t *count, size_t *size,
+                           h26x_refusal *why)
+{
+    is_output(why, given.why);
+    return proved_packets_size(p, mtu, access_unit, access_unit_len, headroom, count, size);
+}
+
+static void check_units_size(void)
+{
+    give(IN | FIRST | SECOND | WHY);
+    hands_on(h26x_units_size(&packetizer, given.value, given.in.at, given.in.len, given.other_value,
+                             given.first, given.second, given.why));
+}
+
 STUB(packet_copy);
 size_t proved_packet_copy(const h26x_packetizer *p, size_t i, uint8_t *to, size_t room)
 {
@@ -1057,6 +1107,9 @@ int main(void)
     in_each_case(check_packetize_into);
     in_each_case(check_packetize_unit_into);
     in_each_case(check_packets_size);
+    in_each_case(check_packetize_units);
+    in_each_case(check_packetize_units_into);
+    in_each_case(check_units_size);
     in_each_case(check_packet_copy);
     in_each_case(check_packets_copy);
     in_each_case(check_depacketizer_free);

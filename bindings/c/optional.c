@@ -22,6 +22,10 @@ static void check_empty_inputs(struct tally *t, uint32_t codec)
     expect(t, count == 0 && size == 0);
     expect(t, h26x_packetize_unit_into(&p, 9, NULL, 0, 12, NULL, 0, NULL, 0, NULL, NULL) == H26X_OK);
     expect(t, h26x_packets_size(&p, 9, NULL, 0, 12, NULL, NULL) == H26X_OK);
+    count = 9;
+    expect(t, h26x_packetize_units(&p, 9, NULL, 0, &count, NULL) == H26X_OK && count == 0);
+    expect(t, h26x_packetize_units_into(&p, 9, NULL, 0, 12, NULL, 0, NULL, 0, NULL, NULL, NULL) == H26X_OK);
+    expect(t, h26x_units_size(&p, 9, NULL, 0, 12, NULL, NULL, NULL) == H26X_OK);
     expect(t, h26x_depacketize(&d, false, NULL, 0, NULL, 0, NULL, NULL, NULL) == H26X_SHORT_PACKET);
     expect(t, h26x_receive(&r, 1, NULL, 0, to, 4, NULL, NULL, NULL, NULL, NULL) == H26X_SHORT_PACKET);
     expect(t, to[0] == 7);
@@ -56,6 +60,14 @@ static void check_inputs_of_null(struct tally *t, uint32_t codec, size_t len)
     count = size = 9;
     expect(t, h26x_packets_size(&p, 1200, NULL, len, 12, &count, &size) == H26X_OK);
     expect(t, count == 0 && size == 0);
+    count = 9;
+    expect(t, h26x_packetize_units(&p, 1200, NULL, len, &count, NULL) == H26X_OK && count == 0);
+    count = size = 9;
+    expect(t, h26x_packetize_units_into(&p, 9, NULL, len, 0, to, 16, ends, 2, &count, &size, NULL) == H26X_OK);
+    expect(t, count == 0 && size == 0);
+    count = size = 9;
+    expect(t, h26x_units_size(&p, 9, NULL, len, 12, &count, &size, NULL) == H26X_OK);
+    expect(t, count == 0 && size == 0);
     expect(t, h26x_depacketize(&d, true, NULL, len, to, 16, &size, &extra, NULL) == H26X_SHORT_PACKET);
     expect(t, h26x_receive(&r, 7, NULL, len, to, 16, &size, &extra, NULL, NULL, NULL) == H26X_SHORT_PACKET);
     expect(t, !h26x_is_partition_head(codec, NULL, len) && !h26x_detect_keyframe(codec, NULL, len));
@@ -84,6 +96,9 @@ static void check_memory_of_null(struct tally *t, size_t room)
     expect(t, h26x_packetize_into(&p, 9, unit, 4, 0, to, 16, NULL, room, NULL, NULL) == H26X_NO_ROOM);
     expect(t, h26x_packetize_unit_into(&p, 9, unit, 4, 0, NULL, room, ends, 2, NULL, NULL) == H26X_NO_ROOM);
     expect(t, h26x_packetize_unit_into(&p, 9, unit, 4, 0, to, 16, NULL, room, NULL, NULL) == H26X_NO_ROOM);
+    expect(t, h26x_packetize_units_into(&p, 9, unit, 4, 0, NULL, room, ends, 2, NULL, &size, NULL) == H26X_NO_ROOM);
+    expect(t, size == 4 && ends[0] == 9);
+    expect(t, h26x_packetize_units_into(&p, 9, unit, 4, 0, to, 16, NULL, room, NULL, NULL, NULL) == H26X_NO_ROOM);
     expect(t, h26x_packetize(&p, 3, unit, 4, NULL) == H26X_OK);
     expect(t, h26x_packet_copy(&p, 2, NULL, room) == 3);
     expect(t, h26x_packets_copy(&p, 0, NULL, room, ends, 2) == 0);
@@ -229,7 +244,7 @@ static void check_frees(struct tally *t)
 
 static bool is_code(uint32_t n)
 {
-    return n <= H26X_NOTHING_YET || (H26X_SDP_OPEN_BRACE <= n && n <= H26X_SDP_NO_PROFILE)
+    return n <= H26X_UNIT_TOO_LONG || (H26X_SDP_OPEN_BRACE <= n && n <= H26X_SDP_NO_PROFILE)
         || (H26X_SDP_NO_ANSWER <= n && n <= H26X_SDP_LONG_CONSTRAINTS);
 }
 

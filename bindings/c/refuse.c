@@ -170,6 +170,38 @@ static void refuse_placing(const struct codec *c)
     h26x_packetizer_free(p);
 }
 
+/* Packets of all units: the list of units takes memory too, and a unit that can't go is named once there is some. */
+static void refuse_every_unit(const struct codec *c)
+{
+    h26x_packetizer p;
+    h26x_refusal why = {7, 7};
+    size_t count = 99, size = 99, ends[4] = {0};
+    const uint8_t *sets = (const uint8_t *)c->sets;
+    expect(h26x_packetizer_new(c->number, false, &p) == H26X_OK);
+    memset(to, 0xee, sizeof to);
+    refuse_each(h26x_units_size(&p, LIMIT, sets, c->sets_len, 2, &count, &size, &why),
+                count == 0 && size == 0 && why.first == 0 && why.second == 0);
+    expect(count == 1);
+    const size_t told = size;
+    refuse_each(h26x_packetize_units(&p, LIMIT, sets, c->sets_len, &count, &why),
+                count == 0 && h26x_packet_count(&p) == 0);
+    expect(count == 1);
+    refuse_each(h26x_packetize_units(&p, LIMIT, sets, c->sets_len, &count, &why), count == 1);
+    refuse_each(h26x_packetize_units_into(&p, LIMIT, sets, c->sets_len, 2, to, sizeof to, ends, 4, &count, &size, &why),
+                count == 0 && size == 0 && to[2] == 0xee && ends[0] == 0);
+    expect(count == 1 && size == told && ends[0] == size && to[0] == 0xee && to[size] == 0xee);
+    expect(memcmp(to + 2, c->begins[0], c->fragment_header - 1) == 0);
+
+    refuse_requests(0, false);
+    const uint32_t code = h26x_packetize_units(&p, LIMIT, (const uint8_t *)"\xff\xff", 2, &count, &why);
+    expect(grant_all() > 0 && code == H26X_OUT_OF_MEMORY && count == 1);
+    expect(h26x_packetize_units(&p, LIMIT, (const uint8_t *)"\xff\xff", 2, &count, &why) == H26X_UNIT_FORBIDDEN);
+    expect(count == 1 && why.first == 0 && why.second == 2);
+    without_memory(h26x_packetizer_set_packing(&p, H26X_APART) == H26X_OK);
+    expect(h26x_packetize_units(&p, LIMIT, sets, c->sets_len, &count, NULL) == H26X_OK && count == 2);
+    h26x_packetizer_free(p);
+}
+
 /* Bytes of a text that may have zeros. */
 struct text {
     const void *at;
@@ -735,6 +767,7 @@ int main(void)
         memcpy(unit, c->unit, c->unit_header);
         refuse_sending(c);
         refuse_placing(c);
+        refuse_every_unit(c);
         refuse_receiving(c);
         refuse_receiving_sequenced(c);
         refuse_keeping(c);

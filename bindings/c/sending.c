@@ -384,6 +384,71 @@ static void check_lowest_header(struct tally *t)
     h26x_packetizer_free(p);
 }
 
+/* Makes the packets of an access unit, and compares them. */
+static void sends_all(struct tally *t, h26x_packetizer *p, size_t mtu, const char *access_unit, const char *packets)
+{
+    struct bytes b = bytes_of(access_unit);
+    size_t count = 99;
+    expect(t, h26x_packetize_units(p, mtu, b.at, b.len, &count, NULL) == H26X_OK);
+    holds_at(t, p, count, packets, __FILE__, __LINE__);
+}
+
+/* Every unit of an access unit; the rows of streams/sent_units.txt have more. */
+static void check_every_unit(struct tally *t)
+{
+    static const char sets[] = "000001 6742 000001 68ce";
+    h26x_packetizer p = made(t, H26X_H264, false), q;
+    struct bytes b = bytes_of("00000001 6588 000001 0605 0000 000001 e588");
+    h26x_refusal why = {7, 8};
+    uint8_t to[64] = {0xee};
+    size_t count = 9, size = 9, ends[2] = {9, 9};
+    /* Sets that wait stay, and the zeros before a start code are its own. */
+    sends(t, &p, 1500, sets, "");
+    sends_all(t, &p, 1500, "000001 6799 000000 00000001 6588", "78 0002 6799 0002 6588");
+    sends(t, &p, 1500, "6588", "78 0002 6742 0002 68ce|6588");
+    sends_all(t, &p, 1500, "6588", "6588");
+    sends_all(t, &p, 1500, "", "");
+
+    /* Where they don't fit nothing is done but that it is told; the packets of the handle stay. */
+    sends_all(t, &p, 4, "000001 6501020304", "7c850102|7c450304");
+    expect(t, h26x_packetize_units_into(&p, 4, b.at, 6, 2, to, 3, ends, 2, &count, &size, &why) == H26X_NO_ROOM);
+    expect(t, count == 1 && size == 4 && to[0] == 0xee && ends[0] == 9 && why.first == 7);
+    expect(t, h26x_packetize_units_into(&p, 4, b.at, 6, 2, to, 4, ends, 0, &count, &size, &why) == H26X_NO_ROOM);
+    expect(t, h26x_packetize_units_into(&p, 4, b.at, 6, 2, to, 4, ends, 1, &count, &size, &why) == H26X_OK);
+    expect(t, to[0] == 0xee && is_same(to + 2, 2, "6588") && ends[0] == 4 && ends[1] == 9);
+    expect(t, h26x_units_size(&p, 4, b.at, 6, SIZE_MAX, &count, &size, &why) == H26X_OK && size == SIZE_MAX);
+    expect(t, h26x_packet_count(&p) == 2 && h26x_packet_len(&p, 1) == 4);
+
+    /* The unit with F set is the third, of two bytes. */
+    expect(t, h26x_packetize_units(&p, 9, b.at, b.len, &count, &why) == H26X_UNIT_FORBIDDEN && count == 2);
+    expect(t, why.first == 2 && why.second == 2 && h26x_packet_count(&p) == 2);
+    expect(t, h26x_units_size(&p, 9, b.at, b.len, 0, NULL, NULL, NULL) == H26X_UNIT_FORBIDDEN);
+
+    /* The packing is copied, and a number that none has changes nothing. */
+    expect(t, h26x_packetizer_set_packing(&p, H26X_APART) == H26X_OK);
+    expect(t, h26x_packetizer_set_packing(&p, H26X_SINGLE + 1) == H26X_OUT_OF_RANGE);
+    expect(t, h26x_packetizer_set_packing(&p, UINT32_MAX) == H26X_OUT_OF_RANGE);
+    expect(t, h26x_packetizer_clone(&p, &q) == H26X_OK);
+    sends_all(t, &p, 1500, sets, "6742|68ce");
+    sends_all(t, &q, 1500, sets, "6742|68ce");
+    expect(t, h26x_packetizer_set_packing(&q, H26X_TOGETHER) == H26X_OK);
+    sends_all(t, &q, 1500, sets, "78 0002 6742 0002 68ce");
+    sends_all(t, &p, 1500, sets, "6742|68ce");
+    h26x_packetizer_free(p);
+    h26x_packetizer_free(q);
+
+    /* Each unit takes a number, of calls that are carried out. */
+    p = made(t, H26X_H265, true);
+    sends_all(t, &p, 100, "000001 4201 000001 4401 000001 0203aa", "6001 0000 0002 4201 00 0002 4401 00 0003 0203aa");
+    b = bytes_of("000001 0203aa 000001 44");
+    expect(t, h26x_packetize_units(&p, 100, b.at, b.len, NULL, &why) == H26X_UNIT_WITHOUT_HEADER && why.first == 1);
+    expect(t, h26x_packetize_units_into(&p, 100, b.at, 6, 0, NULL, 0, NULL, 0, NULL, NULL, NULL) == H26X_NO_ROOM);
+    expect(t, h26x_packetize_units_into(&p, 100, b.at, 6, 0, to, 64, ends, 2, &count, &size, NULL) == H26X_OK);
+    expect(t, is_same(to, size, "0203 0003 aa"));
+    sends(t, &p, 100, "0203aa", "0203 0004 aa");
+    h26x_packetizer_free(p);
+}
+
 static void check_refusals(struct tally *t)
 {
     h26x_packetizer p = {NULL}, depacketizer;
@@ -407,6 +472,16 @@ static void check_refusals(struct tally *t)
     expect(t, h26x_packetizer_set_numbers(&depacketizer, true) == H26X_WRONG_END);
     expect(t, h26x_packetizer_set_max_size(&depacketizer, 9) == H26X_WRONG_END);
     expect(t, h26x_packetizer_set_lowest_header(&depacketizer, true) == H26X_WRONG_END);
+    expect(t, h26x_packetizer_set_packing(&depacketizer, H26X_APART) == H26X_WRONG_END);
+    expect(t, h26x_packetizer_set_packing(&depacketizer, 4) == H26X_WRONG_END);
+    count = 9;
+    expect(t, h26x_packetize_units(&depacketizer, 9, unit, 1, &count, NULL) == H26X_WRONG_END && count == 0);
+    count = 9;
+    expect(t, h26x_units_size(&depacketizer, 9, unit, 1, 0, &count, NULL, NULL) == H26X_WRONG_END && count == 0);
+    count = 9;
+    expect(t,
+           h26x_packetize_units_into(&depacketizer, 9, unit, 1, 0, to, 8, NULL, 0, &count, NULL, NULL) == H26X_WRONG_END
+               && count == 0);
     expect(t, h26x_packet_count(&depacketizer) == 0 && h26x_packet_len(&depacketizer, 0) == 0);
     expect(t, h26x_packet_copy(&depacketizer, 0, to, 8) == 0 && to[0] == 7);
     expect(t, h26x_packets_copy(&depacketizer, 0, to, 8, &count, 1) == 0 && to[0] == 7);
@@ -427,5 +502,6 @@ void check_sending(struct tally *t)
     check_into(t);
     check_placed(t);
     check_lowest_header(t);
+    check_every_unit(t);
     check_refusals(t);
 }

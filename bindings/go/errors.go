@@ -53,6 +53,18 @@ const (
 	ErrNothingYet Code = C.H26X_NOTHING_YET
 )
 
+// Why a unit of an access unit can't go. First is its place, from 0, and Second its length in bytes.
+const (
+	// ErrUnitWithoutHeader: it has no whole header: one byte of H.264, two of the others.
+	ErrUnitWithoutHeader Code = C.H26X_UNIT_WITHOUT_HEADER
+	// ErrUnitForbidden: its forbidden bit is set.
+	ErrUnitForbidden Code = C.H26X_UNIT_FORBIDDEN
+	// ErrUnitOfPacketType: its type is one of packets.
+	ErrUnitOfPacketType Code = C.H26X_UNIT_OF_PACKET_TYPE
+	// ErrUnitTooLong: it is longer than a packet, and no fragment may go or has room for data.
+	ErrUnitTooLong Code = C.H26X_UNIT_TOO_LONG
+)
+
 // Why format parameters of SDP and payload types are refused. First of those from ErrSDPNotANumber to ErrSDPTwice is the
 // place of the parameter, from 0, blank parts not counted; of those from ErrSDPNotBase64 to ErrSDPStartCode that of the
 // unit.
@@ -135,6 +147,8 @@ func (e *Error) Error() string {
 		return e.Code.Error() + " (type " + first + ")"
 	case ErrSTAPATooLong:
 		return e.Code.Error() + " (" + first + " bytes, where " + second + " are left)"
+	case ErrUnitWithoutHeader, ErrUnitForbidden, ErrUnitOfPacketType, ErrUnitTooLong:
+		return e.Code.Error() + " (unit " + first + ", " + second + " bytes)"
 	case ErrSDPNotANumber, ErrSDPOutOfRange, ErrSDPNotHexadecimal, ErrSDPNotTxMode, ErrSDPTwice:
 		return e.Code.Error() + " (parameter " + first + ")"
 	case ErrSDPNotBase64, ErrSDPEmptyUnit, ErrSDPOtherType, ErrSDPStartCode:

@@ -3,13 +3,22 @@ package h26x
 /*
 #include <h26x.h>
 
-// Makes the packets of a payload, or of one unit as it is.
-static uint32_t packets_into(bool is_unit, h26x_packetizer *p, size_t mtu, const uint8_t *bytes, size_t len,
+// Makes the packets of a payload, of one unit as it is, or of the units of an access unit.
+static uint32_t packets_into(int of, h26x_packetizer *p, size_t mtu, const uint8_t *bytes, size_t len,
                              size_t headroom, uint8_t *to, size_t room, size_t *ends, size_t ends_room,
-                             size_t *count, size_t *size)
+                             size_t *count, size_t *size, h26x_refusal *why)
 {
-    return is_unit ? h26x_packetize_unit_into(p, mtu, bytes, len, headroom, to, room, ends, ends_room, count, size)
+    if (of == 2)
+        return h26x_packetize_units_into(p, mtu, bytes, len, headroom, to, room, ends, ends_room, count, size, why);
+    return of == 1 ? h26x_packetize_unit_into(p, mtu, bytes, len, headroom, to, room, ends, ends_room, count, size)
                    : h26x_packetize_into(p, mtu, bytes, len, headroom, to, room, ends, ends_room, count, size);
+}
+
+static uint32_t size_of(int of, const h26x_packetizer *p, size_t mtu, const uint8_t *bytes, size_t len,
+                        size_t headroom, size_t *count, size_t *size, h26x_refusal *why)
+{
+    return of == 2 ? h26x_units_size(p, mtu, bytes, len, headroom, count, size, why)
+                   : h26x_packets_size(p, mtu, bytes, len, headroom, count, size);
 }
 */
 import "C"
@@ -33,7 +42,28 @@ type Packetizer struct {
 type sending struct {
 	handle      C.h26x_packetizer
 	count, size C.size_t
+	why         C.h26x_refusal
 }
+
+// What a call makes packets of.
+const (
+	ofPayload = iota
+	ofUnit
+	ofUnits
+)
+
+// A Packing says which units of an access unit share packets.
+type Packing uint32
+
+// PackTogether: those that fit one packet. PackBeforeSlices: of these, those that are no slices, since a slice
+// goes out at once. PackApart: none, so with a packet one slice is lost. PackSingle: none, and no unit goes in
+// fragments (packetization-mode 0 of H.264; RFC 6184, 6.2).
+const (
+	PackTogether     Packing = C.H26X_TOGETHER
+	PackBeforeSlices Packing = C.H26X_BEFORE_SLICES
+	PackApart        Packing = C.H26X_APART
+	PackSingle       Packing = C.H26X_SINGLE
+)
 
 // NewPacketizer makes a packetizer for which no parameter set waits, whose packets bear no decoding order
 // numbers. Its errors are ErrUnknownCodec and ErrOutOfMemory.
@@ -120,6 +150,17 @@ func (p *Packetizer) SetMaxPacketSize(bytes uint16) error {
 	return refusedBy(C.h26x_packetizer_set_max_size(&p.call.handle, C.uint16_t(bytes)))
 }
 
+// SetPacking sets which units share packets that PacketizeUnits makes: PackTogether at first. Its errors are
+// ErrOutOfRange of a Packing that is none, and ErrClosed.
+func (p *Packetizer) SetPacking(packing Packing) error {
+	p.mu.Lock()
+	defer p.mu.Unlock()
+	if p.call == nil {
+		return ErrClosed
+	}
+	return refusedBy(C.h26x_packetizer_set_packing(&p.call.handle, C.uint32_t(packing)))
+}
+
 // Payload is Packetize for Pion: it answers nil where that answers an error, which is for want of memory or
 // behind Close.
 func (p *Packetizer) Payload(mtu uint16, payload []byte) [][]byte {
@@ -150,7 +191,7 @@ func (p *Packetizer) Payload(mtu uint16, payload []byte) [][]byte {
 //   - A unit of H.265 or H.266 that is a bare header of two bytes is sent, and depacketizers refuse its
 //     packet as ErrShortPacket, which changes nothing.
 func (p *Packetizer) Packetize(mtu uint16, payload []byte) ([][]byte, error) {
-	return p.copies(false, mtu, payload)
+	return p.copies(ofPayload, mtu, payload)
 }
 
 // PacketizeUnit answers the RTP payloads of one NAL unit as it is: no start code is looked for in it, and
@@ -160,7 +201,19 @@ func (p *Packetizer) Packetize(mtu uint16, payload []byte) ([][]byte, error) {
 // mtu of 1 (H.264) or 4, and of a unit longer than a packet where no fragment has room for data. Its errors
 // are those of Packetize.
 func (p *Packetizer) PacketizeUnit(mtu uint16, unit []byte) ([][]byte, error) {
-	return p.copies(true, mtu, unit)
+	return p.copies(ofUnit, mtu, unit)
+}
+
+// PacketizeUnits answers the RTP payloads of one access unit in Annex B form, as an encoder gives it: every
+// unit, in order and as it is, whatever its kind, so several sets of a kind and delimiters arrive too. By
+// PackTogether no sender that brings these units needs fewer packets (RFC 6184, 5.7.1; RFC 7798, 4.4.2; RFC 9328,
+// 4.3.2). Sets that wait for Packetize stay: one stream uses the one call or the other.
+//
+// Where a unit can't go nothing is sent, and an Error names the first, First by its place and Second by its
+// length: ErrUnitWithoutHeader, ErrUnitForbidden, ErrUnitOfPacketType or ErrUnitTooLong. The other errors are
+// those of Packetize.
+func (p *Packetizer) PacketizeUnits(mtu uint16, accessUnit []byte) ([][]byte, error) {
+	return p.copies(ofUnits, mtu, accessUnit)
 }
 
 // PacketizeInto makes the packets of Packetize in the place of those in into, each behind its headroom. It
@@ -169,40 +222,56 @@ func (p *Packetizer) PacketizeUnit(mtu uint16, unit []byte) ([][]byte, error) {
 func (p *Packetizer) PacketizeInto(mtu uint16, payload []byte, into *Packets) error {
 	p.mu.Lock()
 	defer p.mu.Unlock()
-	return p.makes(false, mtu, payload, into)
+	return p.makes(ofPayload, mtu, payload, into)
 }
 
 // PacketizeUnitInto makes the packets of PacketizeUnit in the place of those in into, as PacketizeInto does.
 func (p *Packetizer) PacketizeUnitInto(mtu uint16, unit []byte, into *Packets) error {
 	p.mu.Lock()
 	defer p.mu.Unlock()
-	return p.makes(true, mtu, unit, into)
+	return p.makes(ofUnit, mtu, unit, into)
+}
+
+// PacketizeUnitsInto makes the packets of PacketizeUnits in the place of those in into, as PacketizeInto does.
+func (p *Packetizer) PacketizeUnitsInto(mtu uint16, accessUnit []byte, into *Packets) error {
+	p.mu.Lock()
+	defer p.mu.Unlock()
+	return p.makes(ofUnits, mtu, accessUnit, into)
 }
 
 // PacketsSize tells how many packets PacketizeInto would make of a payload, and how many bytes they take with
 // so much headroom before each. The packetizer is left as it is. It panics where NewPackets does; its errors are
 // those of Packetize.
 func (p *Packetizer) PacketsSize(mtu uint16, payload []byte, headroom int) (count, size int, err error) {
+	return p.sizes(ofPayload, mtu, payload, headroom)
+}
+
+// UnitsSize tells the same of PacketizeUnitsInto; its errors are those of PacketizeUnits.
+func (p *Packetizer) UnitsSize(mtu uint16, accessUnit []byte, headroom int) (count, size int, err error) {
+	return p.sizes(ofUnits, mtu, accessUnit, headroom)
+}
+
+func (p *Packetizer) sizes(of C.int, mtu uint16, bytes []byte, headroom int) (count, size int, err error) {
 	checkHeadroom(headroom)
 	p.mu.RLock()
 	defer p.mu.RUnlock()
 	if p.call == nil {
 		return 0, 0, ErrClosed
 	}
-	told := new([2]C.size_t)
-	code := C.h26x_packets_size(&p.call.handle, C.size_t(mtu), at(payload), C.size_t(len(payload)),
-		C.size_t(headroom), &told[0], &told[1])
-	if err := refusedBy(code); err != nil {
+	told, why := new([2]C.size_t), new(C.h26x_refusal)
+	code := C.size_of(of, &p.call.handle, C.size_t(mtu), at(bytes), C.size_t(len(bytes)), C.size_t(headroom),
+		&told[0], &told[1], why)
+	if err := refused(code, *why); err != nil {
 		return 0, 0, err
 	}
 	return lengths(told[0], told[1])
 }
 
 // copies makes packets in memory of their own.
-func (p *Packetizer) copies(isUnit bool, mtu uint16, bytes []byte) ([][]byte, error) {
+func (p *Packetizer) copies(of C.int, mtu uint16, bytes []byte) ([][]byte, error) {
 	p.mu.Lock()
 	defer p.mu.Unlock()
-	if err := p.makes(isUnit, mtu, bytes, &p.kept); err != nil {
+	if err := p.makes(of, mtu, bytes, &p.kept); err != nil {
 		return nil, err
 	}
 	return p.kept.copies(), nil
@@ -210,18 +279,19 @@ func (p *Packetizer) copies(isUnit bool, mtu uint16, bytes []byte) ([][]byte, er
 
 // makes makes packets in the place of those in into, whose room grows where they don't fit. The caller has
 // the lock.
-func (p *Packetizer) makes(isUnit bool, mtu uint16, bytes []byte, into *Packets) error {
+func (p *Packetizer) makes(of C.int, mtu uint16, bytes []byte, into *Packets) error {
 	call := p.call
 	if call == nil {
 		return ErrClosed
 	}
 	read := apart(bytes, into.bytes)
 	for {
-		code := C.packets_into(C.bool(isUnit), &call.handle, C.size_t(mtu), at(read), C.size_t(len(read)),
+		call.why = C.h26x_refusal{}
+		code := C.packets_into(of, &call.handle, C.size_t(mtu), at(read), C.size_t(len(read)),
 			C.size_t(into.headroom), at(into.bytes), C.size_t(len(into.bytes)), into.endsAt(),
-			C.size_t(len(into.ends)), &call.count, &call.size)
+			C.size_t(len(into.ends)), &call.count, &call.size, &call.why)
 		if code != C.H26X_NO_ROOM {
-			if err := refusedBy(code); err != nil {
+			if err := refused(code, call.why); err != nil {
 				return err
 			}
 			into.count = int(call.count)

@@ -101,9 +101,15 @@ enum h26x_code {
     H26X_UNKNOWN_CODEC = 9,
     H26X_WRONG_END = 10,              /**< a handle of one kind where another is wanted */
     H26X_NOT_OF_THIS_CODEC = 11,      /**< decoding order numbers or a largest size for H.264 */
-    H26X_OUT_OF_RANGE = 12,           /**< a largest size under 4, a window of 0 or over 16384 */
+    H26X_OUT_OF_RANGE = 12,           /**< a largest size under 4, a window of 0 or over 16384, no packing of h26x_packing */
     H26X_NO_ROOM = 13,                /**< what is to be written doesn't fit in the caller's memory */
     H26X_NOTHING_YET = 14,            /**< no access unit has ended */
+    /* Of units that are all to be sent. why->first: the place of the first that can't go, from 0; why->second: its
+     * length in bytes. */
+    H26X_UNIT_WITHOUT_HEADER = 15,    /**< it has no whole header: one byte of H.264, two of the others */
+    H26X_UNIT_FORBIDDEN = 16,         /**< its forbidden bit is set */
+    H26X_UNIT_OF_PACKET_TYPE = 17,    /**< its type is one of packets, or, of H.264, none of a unit */
+    H26X_UNIT_TOO_LONG = 18,          /**< it is longer than a packet, and no fragment may go or has room for data */
     /* Of format parameters of SDP. why->first of those from 21 to 25: the place of the parameter, from 0, blank parts
      * not counted; of those from 29 to 32: the place of the unit; of those from 42 to 45: the place of the capability
      * point. why->second of 43 and 44: what is wrong there, one of the codes from 20 to 25. */
@@ -244,7 +250,50 @@ H26X_API uint32_t h26x_packetize_unit_into(h26x_packetizer *p, size_t mtu, const
                                            size_t headroom, uint8_t *to, size_t room, size_t *ends, size_t ends_room,
                                            size_t *count, size_t *size) H26X_MUST_USE;
 
-/** How many packets there are of the last h26x_packetize or h26x_packetize_unit; 0 for a handle of another kind. */
+/** Which units of an access unit share packets. */
+enum h26x_packing {
+    H26X_TOGETHER = 0,      /**< those that fit one packet */
+    H26X_BEFORE_SLICES = 1, /**< of these, those that are no slices: a slice goes out at once */
+    H26X_APART = 2,         /**< none: with a packet one slice is lost */
+    H26X_SINGLE = 3         /**< none, and no unit goes in fragments: packetization-mode 0 of H.264 (RFC 6184, 6.2) */
+};
+
+/** Sets which units share packets that h26x_packetize_units and its like make, by a number of h26x_packing:
+ * H26X_TOGETHER at first. Any other is H26X_OUT_OF_RANGE; H26X_WRONG_END. */
+H26X_API uint32_t h26x_packetizer_set_packing(h26x_packetizer *p, uint32_t packing);
+
+/** Makes the packets of one access unit in Annex B form, as an encoder gives it: every unit, in order and as it is,
+ * whatever its kind. Units are cut as h26x_next_unit does; an empty text has none. Those that may share a packet go
+ * together where they fit (RFC 6184, 5.7.1; RFC 7798, 4.4.2; RFC 9328, 4.3.2), one that is longer than a packet goes
+ * in fragments, and no sender that brings these units needs fewer packets than by H26X_TOGETHER. So several sets of a
+ * kind, sets that come alone and delimiters all arrive. `mtu` and the largest packet size count as in h26x_packetize,
+ * and with decoding order numbers each unit takes one. Sets that wait for h26x_packetize stay: one stream uses the
+ * one call or the other. An aggregate has the header of its units, h26x_packetizer_set_lowest_header or not.
+ *
+ * Where a unit can't go nothing is sent, and *why names the first, by its place and its length: H26X_UNIT_WITHOUT_HEADER,
+ * H26X_UNIT_FORBIDDEN, H26X_UNIT_OF_PACKET_TYPE or H26X_UNIT_TOO_LONG. Else *count and the answers are those of
+ * h26x_packetize. H26X_OUT_OF_MEMORY writes 0 to why->first and why->second, and H26X_OK leaves *why.
+ *
+ * A unit of H.265 or H.266 that is a bare header of two bytes goes in an aggregate where it can; alone h26x_depacketize
+ * refuses it. Each call takes memory for the list of its units while it runs, but none for their bytes. */
+H26X_API uint32_t h26x_packetize_units(h26x_packetizer *p, size_t mtu, const uint8_t *access_unit,
+                                       size_t access_unit_len, size_t *count, h26x_refusal *why) H26X_MUST_USE;
+
+/** The same as h26x_packetize_into of one access unit, as h26x_packetize_units sends it. Units are refused as there:
+ * then 0 is written to *count and *size. H26X_OK and H26X_NO_ROOM leave *why. */
+H26X_API uint32_t h26x_packetize_units_into(h26x_packetizer *p, size_t mtu, const uint8_t *access_unit,
+                                            size_t access_unit_len, size_t headroom, uint8_t *to, size_t room,
+                                            size_t *ends, size_t ends_room, size_t *count, size_t *size,
+                                            h26x_refusal *why) H26X_MUST_USE;
+
+/** How many packets h26x_packetize_units_into would make of an access unit, and how many bytes they take with their
+ * headroom. The packetizer is left. Each refusal writes 0 to *count and *size, and names its unit as there. */
+H26X_API uint32_t h26x_units_size(const h26x_packetizer *p, size_t mtu, const uint8_t *access_unit,
+                                  size_t access_unit_len, size_t headroom, size_t *count, size_t *size,
+                                  h26x_refusal *why) H26X_MUST_USE;
+
+/** How many packets there are of the last h26x_packetize, h26x_packetize_unit or h26x_packetize_units; 0 for a handle of
+ * another kind. */
 H26X_API size_t h26x_packet_count(const h26x_packetizer *p);
 
 /** The length of packet i of these, in bytes; 0 past the last. */

@@ -15,6 +15,9 @@ PROVED(packetize_unit);
 PROVED(packetize_into);
 PROVED(packetize_unit_into);
 PROVED(packets_size);
+PROVED(packetize_units);
+PROVED(packetize_units_into);
+PROVED(units_size);
 PROVED(packet_copy);
 PROVED(packets_copy);
 PROVED(depacketizer_free);
@@ -130,6 +133,39 @@ uint32_t h26x_packets_size(const h26x_packetizer *p, size_t mtu, const uint8_t *
     size_t unwanted[2];
     return proved_packets_size(p, mtu, BYTES(payload, payload_len), headroom,
                                WANTED(count, &unwanted[0]), WANTED(size, &unwanted[1]));
+}
+
+uint32_t h26x_packetize_units(h26x_packetizer *p, size_t mtu, const uint8_t *access_unit,
+                              size_t access_unit_len, size_t *count, h26x_refusal *why)
+{
+    size_t unwanted;
+    h26x_refusal unwanted_why;
+    return proved_packetize_units(p, mtu, BYTES(access_unit, access_unit_len),
+                                  WANTED(count, &unwanted), WANTED(why, &unwanted_why));
+}
+
+uint32_t h26x_packetize_units_into(h26x_packetizer *p, size_t mtu, const uint8_t *access_unit,
+                                   size_t access_unit_len, size_t headroom, uint8_t *to,
+                                   size_t room, size_t *ends, size_t ends_room, size_t *count,
+                                   size_t *size, h26x_refusal *why)
+{
+    size_t unwanted[2];
+    h26x_refusal unwanted_why;
+    return proved_packetize_units_into(p, mtu, BYTES(access_unit, access_unit_len), headroom,
+                                       BYTES(to, room), ENDS(ends, ends_room),
+                                       WANTED(count, &unwanted[0]), WANTED(size, &unwanted[1]),
+                                       WANTED(why, &unwanted_why));
+}
+
+uint32_t h26x_units_size(const h26x_packetizer *p, size_t mtu, const uint8_t *access_unit,
+                         size_t access_unit_len, size_t headroom, size_t *count, size_t *size,
+                         h26x_refusal *why)
+{
+    size_t unwanted[2];
+    h26x_refusal unwanted_why;
+    return proved_units_size(p, mtu, BYTES(access_unit, access_unit_len), headroom,
+                             WANTED(count, &unwanted[0]), WANTED(size, &unwanted[1]),
+                             WANTED(why, &unwanted_why));
 }
 
 size_t h26x_packet_copy(const h26x_packetizer *p, size_t i, uint8_t *to, size_t room)

@@ -48,6 +48,14 @@ const char *h26x_strerror(uint32_t code)
         return "the output has no room for it";
     case H26X_NOTHING_YET:
         return "no access unit has ended";
+    case H26X_UNIT_WITHOUT_HEADER:
+        return "the unit has no whole header";
+    case H26X_UNIT_FORBIDDEN:
+        return "the unit has its forbidden bit set";
+    case H26X_UNIT_OF_PACKET_TYPE:
+        return "the unit has a type of packets";
+    case H26X_UNIT_TOO_LONG:
+        return "the unit is too long for the packets";
     case H26X_SDP_OPEN_BRACE:
         return "a brace is left open";
     case H26X_SDP_NOT_A_NUMBER:

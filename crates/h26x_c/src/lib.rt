@@ -8,6 +8,7 @@
 mod access_units;
 mod const_handle;
 mod copied;
+mod every_unit;
 mod handle;
 mod paci;
 mod packets;

@@ -10,7 +10,7 @@ ghost use Rattle.h26x_codes.specs.Copies.{with_front, nth_packet, AreCopied};
 ghost use Rattle.h26x_c.specs.Endpoints.{Makes, HasPacketizer, WherePacketizer, OnceDone, WhereDonl};
 ghost use Rattle.h26x_handles.specs.PlacementAnswer.{AreCounted, IsPlacementAnswer};
 ghost use Rattle.h26x_handles.specs.States.{headed_packets, state_with_donl};
-ghost use Rattle.h26x_endpoint.specs.EndpointStates.{endpoint_packetizer_state, endpoint_packets, endpoint_codec, endpoint_headers, endpoint_lowest_header, place_packetizer_state, place_packets, place_lowest_header, endpoint_without_output};
+ghost use Rattle.h26x_endpoint.specs.EndpointStates.{endpoint_packetizer_state, endpoint_packets, endpoint_codec, endpoint_headers, endpoint_lowest_header, place_packetizer_state, place_packets, place_lowest_header, place_packing, endpoint_packing, endpoint_without_output};
 
 use crate::const_handle::ConstHandle;
 use crate::handle::Handle;
@@ -22,6 +22,7 @@ use h26x_codes::code::{
 use h26x_codes::copy::copy_where_room;
 use h26x_endpoint::endpoint::Endpoint;
 use h26x_handles::sending::SendingEndpoint;
+use h26x_packetizer::Packing;
 use std::alloc::Global;
 
 /// Makes a packetizer for which nothing waits.
@@ -39,6 +40,7 @@ pub extern "C" fn h26x_packetizer_new(
         (place_packetizer_state made.new.value) (λ c. fresh_packetizer_state (codec_format c numbers)) }
     ensures none { result ≡ ok → place_packets made.new.value ≡ [] }
     ensures off { result ≡ ok → place_lowest_header made.new.value ≡ false }
+    ensures together { result ≡ ok → place_packing made.new.value ≡ Some Packing.Together }
     ensures kept { result ≢ ok → made.new ≡ made.old }
 {
     match codec_wanted(codec, numbers) {
@@ -86,6 +88,7 @@ pub extern "C" fn h26x_packetizer_set_numbers(p: &mut Handle, numbers: bool) -> 
         (λ c it. (result ≡ ok) × HasPacketizer p.new.value (state_with_donl c numbers it)) }
     ensures packets { endpoint_packets p.new.value ≡ endpoint_packets p.old.value }
     ensures lowest { endpoint_lowest_header p.new.value ≡ endpoint_lowest_header p.old.value }
+    ensures packing { endpoint_packing p.new.value ≡ endpoint_packing p.old.value }
     ensures kept { result ≢ ok → p.new.value ≡ p.old.value }
 {
     match p.get_mut() {
@@ -113,6 +116,7 @@ pub extern "C" fn h26x_packetizer_set_max_size(p: &mut Handle, bytes: u16) -> u3
         × HasPacketizer p.new.value (record it { max_packet_size = bytes })) }
     ensures packets { endpoint_packets p.new.value ≡ endpoint_packets p.old.value }
     ensures lowest { endpoint_lowest_header p.new.value ≡ endpoint_lowest_header p.old.value }
+    ensures packing { endpoint_packing p.new.value ≡ endpoint_packing p.old.value }
     ensures kept { result ≢ ok → p.new.value ≡ p.old.value }
 {
     match p.get_mut() {
@@ -141,6 +145,7 @@ pub extern "C" fn h26x_packetizer_set_lowest_header(p: &mut Handle, lowest: bool
         (λ c it. (result ≡ ok) × (endpoint_lowest_header p.new.value ≡ lowest)) }
     ensures state { endpoint_packetizer_state p.new.value ≡ endpoint_packetizer_state p.old.value }
     ensures codec { endpoint_codec p.new.value ≡ endpoint_codec p.old.value }
+    ensures packing { endpoint_packing p.new.value ≡ endpoint_packing p.old.value }
     ensures packets { endpoint_packets p.new.value ≡ endpoint_packets p.old.value }
     ensures kept { result ≢ ok → p.new.value ≡ p.old.value }
 {
@@ -176,6 +181,7 @@ pub extern "C" fn h26x_packetize(
         (λ it. HasPacketizer p.new.value (after_payload it mtu payload.now)) }
     ensures codec { endpoint_codec p.new.value ≡ endpoint_codec p.old.value }
     ensures lowest { endpoint_lowest_header p.new.value ≡ endpoint_lowest_header p.old.value }
+    ensures packing { endpoint_packing p.new.value ≡ endpoint_packing p.old.value }
     ensures kept { result ≢ ok → p.new.value ≡ p.old.value }
     ensures count { count.new ≡ length (endpoint_packets p.new.value) }
 {
@@ -213,6 +219,7 @@ pub extern "C" fn h26x_packetize_unit(
         (λ it. HasPacketizer p.new.value (after_one_unit it mtu unit.now)) }
     ensures codec { endpoint_codec p.new.value ≡ endpoint_codec p.old.value }
     ensures lowest { endpoint_lowest_header p.new.value ≡ endpoint_lowest_header p.old.value }
+    ensures packing { endpoint_packing p.new.value ≡ endpoint_packing p.old.value }
     ensures kept { result ≢ ok → p.new.value ≡ p.old.value }
     ensures count { count.new ≡ length (endpoint_packets p.new.value) }
 
@@ -295,6 +302,7 @@ pub extern "C" fn h26x_packetize_into(
         (λ it. HasPacketizer p.new.value (after_payload it mtu payload.now)) }
     ensures codec { endpoint_codec p.new.value ≡ endpoint_codec p.old.value }
     ensures lowest { endpoint_lowest_header p.new.value ≡ endpoint_lowest_header p.old.value }
+    ensures packing { endpoint_packing p.new.value ≡ endpoint_packing p.old.value }
     ensures packets { endpoint_packets p.new.value ≡ endpoint_packets p.old.value }
     ensures kept { result ≢ ok → p.new.value ≡ p.old.value }
     ensures kept_to { result ≢ ok → to.new ≡ to.old }
@@ -334,6 +342,7 @@ pub extern "C" fn h26x_packetize_unit_into(
         (λ it. HasPacketizer p.new.value (after_one_unit it mtu unit.now)) }
     ensures codec { endpoint_codec p.new.value ≡ endpoint_codec p.old.value }
     ensures lowest { endpoint_lowest_header p.new.value ≡ endpoint_lowest_header p.old.value }
+    ensures packing { endpoint_packing p.new.value ≡ endpoint_packing p.old.value }
     ensures packets { endpoint_packets p.new.value ≡ endpoint_packets p.old.value }
     ensures kept { result ≢ ok → p.new.value ≡ p.old.value }
     ensures kept_to { result ≢ ok → to.new ≡ to.old }

@@ -225,6 +225,30 @@ impl AnyPacketizer {
         }
     }
 
+    /// How much memory the packets of units take, each behind so many bytes. Nothing changes, and the
+    /// first unit that can't go is named.
+    pub fn units_size<'a>(
+        &self,
+        packing: Packing,
+        mtu: usize,
+        units: &'a [&'a [u8]],
+        headroom: usize,
+    ) -> Result<PacketsSize, EveryUnitError>
+        ensures size { IfOk result (λ it. IsSizeOf headroom
+            (any_every_packets packing self.now mtu (lent_units units.now)) it) }
+        ensures refused { (unit : RefusedUnit) →
+            any_units_refusal packing self.now mtu (lent_units units.now) ≡ Some unit →
+            result ≡ Err (EveryUnitError.Unit unit) }
+        ensures memory { any_units_refusal packing self.now mtu (lent_units units.now) ≡ None →
+            OnErr result (result ≡ Err EveryUnitError.OutOfMemory) }
+    {
+        match self {
+            AnyPacketizer::H264(it) => it.units_size(packing, mtu, units, headroom),
+            AnyPacketizer::H265(it) => it.units_size(packing, mtu, units, headroom),
+            AnyPacketizer::H266(it) => it.units_size(packing, mtu, units, headroom),
+        }
+    }
+
     /// Copies the packets of a payload straight to memory where they fit; else nothing is done.
     pub fn packetize_to_memory(
         &mut self,
@@ -283,6 +307,44 @@ impl AnyPacketizer {
             AnyPacketizer::H264(it) => it.packetize_unit_to_memory(mtu, unit, headroom, to, ends),
             AnyPacketizer::H265(it) => it.packetize_unit_to_memory(mtu, unit, headroom, to, ends),
             AnyPacketizer::H266(it) => it.packetize_unit_to_memory(mtu, unit, headroom, to, ends),
+        }
+    }
+
+    /// Copies the packets of units straight to memory where they fit; else nothing is done.
+    pub fn packetize_units_to_memory<'a>(
+        &mut self,
+        packing: Packing,
+        mtu: usize,
+        units: &'a [&'a [u8]],
+        headroom: usize,
+        to: &mut [u8],
+        ends: &mut [usize],
+    ) -> Result<Placement, EveryUnitError>
+        ensures packets { IfOk result (λ it. IsPlacement headroom
+            (any_every_packets packing self.old mtu (lent_units units.now))
+            to.old to.new ends.old ends.new it) }
+        ensures after { IfOk result (λ it.
+            IsBehindPlaced it (λ s. after_units s (lent_units units.now)) self.old self.new) }
+        ensures codec { any_packetizer_codec self.new ≡ any_packetizer_codec self.old }
+        ensures kept_unplaced { IfOk result (λ it. is_placed it ≡ false → self.new ≡ self.old) }
+        ensures kept { OnErr result (self.new ≡ self.old) }
+        ensures kept_memory { OnErr result ((to.new ≡ to.old) × (ends.new ≡ ends.old)) }
+        ensures refused { (unit : RefusedUnit) →
+            any_units_refusal packing self.old mtu (lent_units units.now) ≡ Some unit →
+            result ≡ Err (EveryUnitError.Unit unit) }
+        ensures memory { any_units_refusal packing self.old mtu (lent_units units.now) ≡ None →
+            OnErr result (result ≡ Err EveryUnitError.OutOfMemory) }
+    {
+        match self {
+            AnyPacketizer::H264(it) => {
+                it.packetize_units_to_memory(packing, mtu, units, headroom, to, ends)
+            }
+            AnyPacketizer::H265(it) => {
+                it.packetize_units_to_memory(packing, mtu, units, headroom, to, ends)
+            }
+            AnyPacketizer::H266(it) => {
+                it.packetize_units_to_memory(packing, mtu, units, headroom, to, ends)
+            }
         }
     }
 }

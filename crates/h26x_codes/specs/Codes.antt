@@ -6,6 +6,13 @@ use Rattle.h26x_core.specs.declared.extra.CodecExtra.{CodecExtra}
 use Rattle.h26x_core.specs.declared.extra.CodecExtra.TheVariants as extra
 use Rattle.h26x_packetizer.specs.declared.placement.Placement.{Placement}
 use Rattle.h26x_packetizer.specs.declared.placement.Placement.TheVariants as p
+use Rattle.h26x_packetizer.specs.declared.packing.Packing.{Packing}
+use Rattle.h26x_packetizer.specs.declared.packing.Packing.TheVariants as k
+use Rattle.h26x_packetizer.specs.declared.refusal.WhyRefused.{WhyRefused}
+use Rattle.h26x_packetizer.specs.declared.refusal.WhyRefused.TheVariants as w
+use Rattle.h26x_packetizer.specs.declared.refusal.RefusedUnit.{RefusedUnit}
+use Rattle.h26x_packetizer.specs.declared.every_unit.EveryUnitError.{EveryUnitError}
+use Rattle.h26x_packetizer.specs.declared.every_unit.EveryUnitError.TheVariants as u
 use Rattle.h26x_codec.specs.declared.codec.Codec.{Codec}
 use Rattle.h26x_codec.specs.declared.codec.Codec.TheVariants as c
 use Rattle.h26x_receiver.specs.declared.received.Received.{Received}
@@ -57,6 +64,28 @@ no_room = 13
 -- no access unit has ended
 abbrev pub nothing_yet : ℕ
 nothing_yet = 14
+
+-- why a unit can't go, where every unit goes
+abbrev pub refused_unit_code : WhyRefused → ℕ
+refused_unit_code w.WithoutHeader = 15
+refused_unit_code w.Forbidden = 16
+refused_unit_code w.OfPacketType = 17
+refused_unit_code w.TooLong = 18
+
+-- the code of a unit that can't go, with its place and its length
+abbrev pub refused_unit_numbers : RefusedUnit → ℕ × (ℕ × ℕ)
+refused_unit_numbers unit = (refused_unit_code unit.why, (unit.place, unit.len))
+
+-- the code of a refusal of units, with two numbers
+abbrev pub units_error_numbers : EveryUnitError → ℕ × (ℕ × ℕ)
+units_error_numbers (u.Unit unit) = refused_unit_numbers unit
+units_error_numbers u.OutOfMemory = (out_of_memory, (0, 0))
+
+-- which units share packets, by its number
+abbrev pub packing_with_number : ℕ → Option Packing
+packing_with_number n =
+    if n == 0 then Some k.Together else if n == 1 then Some k.BeforeSlices
+    else if n == 2 then Some k.Apart else if n == 3 then Some k.Single else None
 
 -- the refusal of a packet with a code and two numbers, if the code is of one
 abbrev pub refusal_of : ℕ → ℕ → ℕ → Option PacketError

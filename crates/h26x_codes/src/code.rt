@@ -1,11 +1,11 @@
 //! What calls answer, as numbers.
 
-ghost use Rattle.std.specs.Prelude.{◌≡◌, Some, Err};
-ghost use Rattle.h26x_codes.specs.Codes.{codec_with_number, extra_with_number, may_have_donl, extra_number, outcome_of, codec_or_code, placement_answer, received_numbers};
+ghost use Rattle.std.specs.Prelude.{◌≡◌, ◌≢◌, Some, Err};
+ghost use Rattle.h26x_codes.specs.Codes.{codec_with_number, extra_with_number, may_have_donl, extra_number, outcome_of, codec_or_code, placement_answer, received_numbers, refused_unit_code, units_error_numbers, packing_with_number, ok, no_room};
 
 use h26x_codec::Codec;
 use h26x_core::{CodecExtra, H264CodecExtra, H265CodecExtra, H266CodecExtra, PacketError};
-use h26x_packetizer::{PacketsSize, Placement};
+use h26x_packetizer::{EveryUnitError, PacketsSize, Packing, Placement, WhyRefused};
 use h26x_receiver::Received;
 
 /// The call was carried out.
@@ -38,6 +38,18 @@ pub const NO_ROOM: u32 = 13;
 /// No access unit has ended.
 pub const NOTHING_YET: u32 = 14;
 
+/// A unit has no whole header.
+pub const UNIT_WITHOUT_HEADER: u32 = 15;
+
+/// The forbidden bit of a unit is set.
+pub const UNIT_FORBIDDEN: u32 = 16;
+
+/// A unit has a type of packets.
+pub const UNIT_OF_PACKET_TYPE: u32 = 17;
+
+/// A unit is longer than a packet, and no fragment has room for its data, or none may go.
+pub const UNIT_TOO_LONG: u32 = 18;
+
 /// The two numbers of a refusal.
 #[repr(C)]
 #[derive(Clone, Copy)]
@@ -62,6 +74,46 @@ pub fn code_of(error: PacketError, why: &mut Refusal) -> u32
     };
     *why = Refusal { first, second };
     code
+}
+
+/// Why a unit can't go, as a code.
+fn code_of_unit(why: WhyRefused) -> u32
+    ensures { result ≡ refused_unit_code why }
+{
+    match why {
+        WhyRefused::WithoutHeader => UNIT_WITHOUT_HEADER,
+        WhyRefused::Forbidden => UNIT_FORBIDDEN,
+        WhyRefused::OfPacketType => UNIT_OF_PACKET_TYPE,
+        WhyRefused::TooLong => UNIT_TOO_LONG,
+    }
+}
+
+/// The code of a refusal of units, and its numbers: the place of the first that can't go, and its
+/// length in bytes.
+pub fn code_of_units(error: EveryUnitError, why: &mut Refusal) -> u32
+    ensures numbers { (result, (why.new.first, why.new.second)) ≡ units_error_numbers error }
+    ensures refused { result ≢ ok }
+    ensures not_for_room { result ≢ no_room }
+{
+    let (code, first, second) = match error {
+        EveryUnitError::Unit(unit) => (code_of_unit(unit.why), unit.place, unit.len),
+        EveryUnitError::OutOfMemory => (OUT_OF_MEMORY, 0, 0),
+    };
+    *why = Refusal { first, second };
+    code
+}
+
+/// Which units share packets, by its number.
+pub fn packing_of(number: u32) -> Option<Packing>
+    ensures { result ≡ packing_with_number number }
+{
+    match number {
+        0 => Some(Packing::Together),
+        1 => Some(Packing::BeforeSlices),
+        2 => Some(Packing::Apart),
+        3 => Some(Packing::Single),
+        _ => None,
+    }
 }
 
 /// The codec with a number, which is that of its standard.

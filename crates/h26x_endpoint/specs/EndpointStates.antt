@@ -12,7 +12,9 @@ use Rattle.h26x_codes.specs.Codes.{extra_with_number}
 use Rattle.h26x_sdp_handles.specs.Sdp.{sdp_codec}
 use Rattle.h26x_endpoint.specs.declared.endpoint.Endpoint.{Endpoint}
 use Rattle.h26x_endpoint.specs.declared.endpoint.Endpoint.TheVariants as e
-use Rattle.h26x_handles.specs.States.{told_depacketizer_state, after_told_packet, headers_asked, receiver_at_work, after_receiver_packet, receiver_after_skip, receiver_run_len, fresh_receiver}
+use Rattle.h26x_packetizer.specs.declared.packing.Packing.{Packing}
+use Rattle.h26x_packetizer.specs.declared.refusal.RefusedUnit.{RefusedUnit}
+use Rattle.h26x_handles.specs.States.{sending_every_packets, sending_refusal, told_depacketizer_state, after_told_packet, headers_asked, receiver_at_work, after_receiver_packet, receiver_after_skip, receiver_run_len, fresh_receiver}
 use Rattle.h26x_handles.specs.UnitsState.{UnitsState, units_deadline, units_missing}
 use Rattle.h26x_handles.specs.AccessUnits.{units_state_of}
 use Rattle.h265_packets.specs.declared.payload.H265Payload.{H265Payload}
@@ -32,6 +34,21 @@ endpoint_headers it = None
 abbrev pub endpoint_lowest_header : Endpoint → Bool
 endpoint_lowest_header (e.Sending it) = it.lowest_header
 endpoint_lowest_header it = false
+
+-- which units of an access unit share packets there
+abbrev pub endpoint_packing : Endpoint → Option Packing
+endpoint_packing (e.Sending it) = Some it.packing
+endpoint_packing it = None
+
+-- the packets that it makes of the units of an access unit, where none is left out
+abbrev pub endpoint_every_packets : Endpoint → ℕ → List ℕ → List (List ℕ)
+endpoint_every_packets (e.Sending it) mtu access_unit = sending_every_packets it mtu access_unit
+endpoint_every_packets it mtu access_unit = []
+
+-- the first of these units that can't go
+abbrev pub endpoint_refusal : Endpoint → ℕ → List ℕ → Option RefusedUnit
+endpoint_refusal (e.Sending it) mtu access_unit = sending_refusal it mtu access_unit
+endpoint_refusal it mtu access_unit = None
 
 -- the packets of its last call
 abbrev pub endpoint_packets : Endpoint → List (List ℕ)
@@ -135,6 +152,10 @@ place_packets (Some it) = endpoint_packets it
 abbrev pub place_lowest_header : Option Endpoint → Bool
 place_lowest_header None = false
 place_lowest_header (Some it) = endpoint_lowest_header it
+
+abbrev pub place_packing : Option Endpoint → Option Packing
+place_packing None = None
+place_packing (Some it) = endpoint_packing it
 
 -- an endpoint whose depacketizer reads numbers or not
 abbrev pub endpoint_with_donl : Bool → Endpoint → Endpoint

@@ -5,7 +5,8 @@ use Rattle.h26x_model.specs.Send.PacketizerState.{PacketizerState, next_packets}
 use Rattle.h26x_model.specs.Receive.DepacketizerState.{DepacketizerState, Depacketization, depacketization, after_packets}
 use Rattle.h26x_codec.specs.Codec.{codec_format}
 use Rattle.h26x_codec.specs.declared.codec.Codec.{Codec}
-use Rattle.h26x_codec.specs.AnyPacketizer.{any_packetizer_state, any_packetizer_codec}
+use Rattle.h26x_codec.specs.AnyPacketizer.{any_packetizer_state, any_packetizer_codec, any_every_packets, any_units_refusal}
+use Rattle.h26x_packetizer.specs.declared.refusal.RefusedUnit.{RefusedUnit}
 use Rattle.h26x_core.specs.declared.extra.CodecExtra.{CodecExtra}
 use Rattle.h26x_model.specs.Receive.RunLimit.{run_len}
 use Rattle.h26x_receiver.specs.Sequenced.{SequencedDepacketization, sequenced_depacketization, after_taken_packet, is_run_kept, expected_after_skip}
@@ -54,6 +55,20 @@ headers_asked it = headers_wanted it.lowest_header (any_packetizer_codec it.pack
 -- the packets that it makes of a payload
 abbrev pub sending_packets : SendingEndpoint → ℕ → List ℕ → List (List ℕ)
 sending_packets it mtu payload = headed_packets (headers_asked it) (sending_state it) mtu payload
+
+-- the units of an access unit in Annex B form
+abbrev pub sending_units : SendingEndpoint → List ℕ → List (List ℕ)
+sending_units it access_unit = (sending_state it).format.units access_unit
+
+-- the packets that it makes of them, where none is left out
+abbrev pub sending_every_packets : SendingEndpoint → ℕ → List ℕ → List (List ℕ)
+sending_every_packets it mtu access_unit = any_every_packets it.packing it.packetizer mtu
+    (sending_units it access_unit)
+
+-- the first of them that can't go
+abbrev pub sending_refusal : SendingEndpoint → ℕ → List ℕ → Option RefusedUnit
+sending_refusal it mtu access_unit = any_units_refusal it.packing it.packetizer mtu
+    (sending_units it access_unit)
 
 -- a receiver of packets with their sequence numbers before it takes one, with what was told so far
 abbrev pub receiver_at_work : SequencedEndpoint → CodecExtra → SequencedDepacketization

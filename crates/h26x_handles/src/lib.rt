@@ -6,6 +6,7 @@
 
 pub mod access_units;
 pub mod cases;
+mod every_unit;
 pub mod headers;
 pub mod receiving;
 pub mod sending;

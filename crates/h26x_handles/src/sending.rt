@@ -14,13 +14,13 @@ use h26x_codec::{AnyPacketizer, Codec};
 use h26x_codes::code::may_have_donl;
 use h26x_codes::copy::{bytes_from, copy_packets};
 use h26x_core::PacketError;
-use h26x_packetizer::{PacketBuffer, Placement};
+use h26x_packetizer::{PacketBuffer, Packing, Placement};
 use std::alloc::Global;
 use std::marker::Model;
 use std::mem;
 
-/// A packetizer of a codec, the packets of its last call, and whether aggregates of H.265 get the
-/// header of their units.
+/// A packetizer of a codec, the packets of its last call, whether aggregates of H.265 get the header
+/// of their units, and which units of an access unit share packets.
 #[derive(Drop)]
 pub struct SendingEndpoint {
     /// The packetizer.
@@ -28,9 +28,10 @@ pub struct SendingEndpoint {
     // As the packetizer has it.
     has_donl: bool,
     lowest_header: bool,
-    packets: PacketBuffer,
+    pub(crate) packing: Packing,
+    pub(crate) packets: PacketBuffer,
     // Where a call writes: the packets of before stay until it is carried out.
-    spare: PacketBuffer,
+    pub(crate) spare: PacketBuffer,
 }
 
 impl Model for SendingEndpoint {
@@ -43,6 +44,7 @@ impl Model for SendingEndpoint {
       packetizer = it.packetizer;
       packets = it.packets.packets;
       lowest_header = it.lowest_header;
+      packing = it.packing;
     } };
 
     ghost invariant = { λ it. (has_numbers it.packetizer ≡ it.has_donl)
@@ -57,11 +59,13 @@ impl SendingEndpoint {
             ≡ fresh_packetizer_state (codec_format codec has_donl) }
         ensures none { result.packets ≡ [] }
         ensures off { result.lowest_header ≡ false }
+        ensures together { result.packing ≡ Packing.Together }
     {
         SendingEndpoint {
             packetizer: AnyPacketizer::new(alloc, codec, has_donl),
             has_donl: has_donl && may_have_donl(codec),
             lowest_header: false,
+            packing: Packing::Together,
             packets: PacketBuffer::new(alloc, 0),
             spare: PacketBuffer::new(alloc, 0),
         }
@@ -72,12 +76,14 @@ impl SendingEndpoint {
         ensures same { IfOk result (λ it. it.packetizer ≡ self.now.packetizer) }
         ensures none { IfOk result (λ it. it.packets ≡ []) }
         ensures lowest { IfOk result (λ it. it.lowest_header ≡ self.now.lowest_header) }
+        ensures packing { IfOk result (λ it. it.packing ≡ self.now.packing) }
         ensures memory { OnErr result (result ≡ Err PacketError.OutOfMemory) }
     {
         Ok(SendingEndpoint {
             packetizer: self.packetizer.clone()?,
             has_donl: self.has_donl,
             lowest_header: self.lowest_header,
+            packing: self.packing,
             packets: PacketBuffer::new(alloc, 0),
             spare: PacketBuffer::new(alloc, 0),
         })
@@ -110,6 +116,13 @@ impl SendingEndpoint {
         self.lowest_header = lowest_header;
     }
 
+    /// Sets which units of an access unit share packets, where every unit goes.
+    pub fn with_packing(&mut self, packing: Packing)
+        ensures { self.new ≡ record self.old { packing = packing } }
+    {
+        self.packing = packing;
+    }
+
     /// Where aggregates get the header of their units: whether packets bear decoding order numbers.
     fn headers(&self) -> Option<bool>
         ensures { result ≡ headers_asked self.now }
@@ -126,6 +139,7 @@ impl SendingEndpoint {
         ensures codec { any_packetizer_codec self.new.packetizer
             ≡ any_packetizer_codec self.old.packetizer }
         ensures lowest { self.new.lowest_header ≡ self.old.lowest_header }
+        ensures packing { self.new.packing ≡ self.old.packing }
         ensures kept { OnErr result (self.new ≡ self.old) }
         ensures memory { OnErr result (result ≡ Err PacketError.OutOfMemory) }
         ensures free { payload_has_no_effect (sending_state self.old) mtu payload.now ≡ true →
@@ -149,6 +163,7 @@ impl SendingEndpoint {
         ensures codec { any_packetizer_codec self.new.packetizer
             ≡ any_packetizer_codec self.old.packetizer }
         ensures lowest { self.new.lowest_header ≡ self.old.lowest_header }
+        ensures packing { self.new.packing ≡ self.old.packing }
         ensures kept { OnErr result (self.new ≡ self.old) }
         ensures memory { OnErr result (result ≡ Err PacketError.OutOfMemory) }
 
@@ -179,6 +194,7 @@ impl SendingEndpoint {
             ≡ any_packetizer_codec self.old.packetizer }
         ensures kept_packets { self.new.packets ≡ self.old.packets }
         ensures lowest { self.new.lowest_header ≡ self.old.lowest_header }
+        ensures packing { self.new.packing ≡ self.old.packing }
         ensures kept_unplaced { IfOk result (λ it. is_placed it ≡ false → self.new ≡ self.old) }
         ensures kept { OnErr result (self.new ≡ self.old) }
         ensures kept_memory { OnErr result ((to.new ≡ to.old) × (ends.new ≡ ends.old)) }
@@ -213,6 +229,7 @@ impl SendingEndpoint {
             ≡ any_packetizer_codec self.old.packetizer }
         ensures kept_packets { self.new.packets ≡ self.old.packets }
         ensures lowest { self.new.lowest_header ≡ self.old.lowest_header }
+        ensures packing { self.new.packing ≡ self.old.packing }
         ensures kept_unplaced { IfOk result (λ it. is_placed it ≡ false → self.new ≡ self.old) }
         ensures kept { OnErr result (self.new ≡ self.old) }
         ensures kept_memory { OnErr result ((to.new ≡ to.old) × (ends.new ≡ ends.old)) }

@@ -5,6 +5,7 @@ ghost use Rattle.h26x_model.specs.Send.Limit.{AreWithinLimit};
 ghost use Rattle.h26x_packetizer.specs.Sending.{contents};
 ghost use Rattle.h26x_packetizer.specs.Buffer.{with_packets, with_memory, IsMemoryWith};
 ghost use Rattle.h26x_packetizer.specs.Group.{lent_units, may_share};
+ghost use Rattle.h26x_packetizer.specs.Placement.{IsPlacement, IsSizeOf, if_placed};
 ghost use Rattle.h26x_packetizer.specs.Refusal.{units_refusal};
 ghost use Rattle.h26x_packetizer.specs.PacketizerView.{IsPacketizerView, limit_of, view_with_update};
 ghost use Rattle.h26x_packetizer.specs.EveryView.{every_packets, view_after_units};
@@ -12,8 +13,10 @@ ghost use Rattle.h26x_packetizer.specs.EveryView.{every_packets, view_after_unit
 use crate::buffer::{Appending, PacketBuffer};
 use crate::every::push_units;
 use crate::every_format::EveryFormat;
+use crate::packet_parts::PacketParts;
 use crate::packetizer::PayloadPacketizer;
 use crate::packing::Packing;
+use crate::placement::{PacketsSize, Placement, place, size_of};
 use crate::refusal::{RefusedUnit, units_refusal};
 use crate::sink::PacketSink;
 use crate::update::Update;
@@ -150,6 +153,96 @@ impl<C: EveryFormat> PayloadPacketizer<C> {
                 Err(e)
             }
         }
+    }
+
+    /// How much memory the packets of units take, each behind `headroom` bytes, as
+    /// [`packetize_units_to_memory`](PayloadPacketizer::packetize_units_to_memory) would place them
+    /// now. Nothing changes, and units are refused as there.
+    pub fn units_size<'a>(
+        &self,
+        packing: Packing,
+        mtu: usize,
+        units: &'a [&'a [u8]],
+        headroom: usize,
+    ) -> Result<PacketsSize, EveryUnitError>
+        ensures size { IfOk result (λ it. IsSizeOf headroom
+            (every_packets C.format C.aggregate (may_share packing (C.is_slice self.now.codec))
+            self.now mtu (lent_units units.now)) it) }
+        ensures refused { (unit : RefusedUnit) → units_refusal (C.format self.now.codec) packing
+            (limit_of C.format self.now mtu) 0 (lent_units units.now) ≡ Some unit →
+            result ≡ Err (EveryUnitError.Unit unit) }
+        ensures memory { units_refusal (C.format self.now.codec) packing
+            (limit_of C.format self.now mtu) 0 (lent_units units.now) ≡ None →
+            OnErr result (result ≡ Err EveryUnitError.OutOfMemory) }
+    {
+        let mut made: Vec<PacketParts<'a>> = Vec::new(self.alloc);
+        self.prepare_units(packing, mtu, units, &mut made)?;
+        Ok(size_of(&made, headroom))
+    }
+
+    /// Copies the packets of units to memory where they fit, and tells what the call changes.
+    fn prepare_units_placed<'a>(
+        &self,
+        packing: Packing,
+        mtu: usize,
+        units: &'a [&'a [u8]],
+        headroom: usize,
+        to: &mut [u8],
+        ends: &mut [usize],
+    ) -> Result<(Placement, Update), EveryUnitError>
+        ensures packets { IfOk result (λ it. IsPlacement headroom
+            (every_packets C.format C.aggregate (may_share packing (C.is_slice self.now.codec))
+            self.now mtu (lent_units units.now)) to.old to.new ends.old ends.new it.0) }
+        ensures after { IfOk result (λ it. view_with_update self.now it.1
+            ≡ view_after_units C.format self.now (lent_units units.now)) }
+        ensures is { IfOk result (λ it.
+            IsPacketizerView C.format (view_with_update self.now it.1)) }
+        ensures kept_memory { OnErr result ((to.new ≡ to.old) × (ends.new ≡ ends.old)) }
+        ensures refused { (unit : RefusedUnit) → units_refusal (C.format self.now.codec) packing
+            (limit_of C.format self.now mtu) 0 (lent_units units.now) ≡ Some unit →
+            result ≡ Err (EveryUnitError.Unit unit) }
+        ensures memory { units_refusal (C.format self.now.codec) packing
+            (limit_of C.format self.now mtu) 0 (lent_units units.now) ≡ None →
+            OnErr result (result ≡ Err EveryUnitError.OutOfMemory) }
+    {
+        let mut made: Vec<PacketParts<'a>> = Vec::new(self.alloc);
+        let update = self.prepare_units(packing, mtu, units, &mut made)?;
+        Ok((place(&made, headroom, to, ends), update))
+    }
+
+    /// Copies the packets of [`packetize_units`](PayloadPacketizer::packetize_units) straight to memory
+    /// of the caller, as [`packetize_to_memory`](PayloadPacketizer::packetize_to_memory) does those of
+    /// a payload.
+    pub fn packetize_units_to_memory<'a>(
+        &mut self,
+        packing: Packing,
+        mtu: usize,
+        units: &'a [&'a [u8]],
+        headroom: usize,
+        to: &mut [u8],
+        ends: &mut [usize],
+    ) -> Result<Placement, EveryUnitError>
+        ensures packets { IfOk result (λ it. IsPlacement headroom
+            (every_packets C.format C.aggregate (may_share packing (C.is_slice self.old.codec))
+            self.old mtu (lent_units units.now)) to.old to.new ends.old ends.new it) }
+        ensures after { IfOk result (λ it. self.new ≡ if_placed it
+            (view_after_units C.format self.old (lent_units units.now)) self.old) }
+        ensures kept { OnErr result (self.new ≡ self.old) }
+        ensures kept_memory { OnErr result ((to.new ≡ to.old) × (ends.new ≡ ends.old)) }
+        ensures refused { (unit : RefusedUnit) → units_refusal (C.format self.old.codec) packing
+            (limit_of C.format self.old mtu) 0 (lent_units units.now) ≡ Some unit →
+            result ≡ Err (EveryUnitError.Unit unit) }
+        ensures memory { units_refusal (C.format self.old.codec) packing
+            (limit_of C.format self.old mtu) 0 (lent_units units.now) ≡ None →
+            OnErr result (result ≡ Err EveryUnitError.OutOfMemory) }
+    {
+        let (placement, update) = self.prepare_units_placed(
+            packing, mtu, units, headroom, to, ends,
+        )?;
+        if let Placement::Placed(_) = placement {
+            self.commit(update);
+        }
+        Ok(placement)
     }
 }
 

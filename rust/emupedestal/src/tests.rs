@@ -35,6 +35,7 @@ mod shown;
 mod stored;
 mod take_all;
 mod threads;
+mod unit_rows;
 mod words;
 
 use crate::{CodecExtra, Depacketizer, PacketError, Packetizer};

@@ -56,7 +56,7 @@ fn cases(function: &str) -> Vec<(Option<&'static str>, Option<String>)> {
 #[test]
 fn words_of_codes() {
     let cases = cases("*h26x_strerror");
-    assert_eq!(cases.len(), 44);
+    assert_eq!(cases.len(), 48);
     for (name, answer) in cases {
         assert_eq!(
             text(h26x_strerror(name.map_or(49, number))),

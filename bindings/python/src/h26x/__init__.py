@@ -87,7 +87,12 @@ from .errors import (
     ShortPacket,
     StapATooLong,
     StreamError,
+    UnitForbidden,
+    UnitOfPacketType,
+    UnitRefused,
     UnitsError,
+    UnitTooLong,
+    UnitWithoutHeader,
     UnknownCodec,
     WrongEnd,
 )
@@ -101,7 +106,7 @@ from .look import (
     set_lowest_header,
     units,
 )
-from .packetizer import Packetizer
+from .packetizer import Packetizer, Packing
 from .profile import (
     H264Level,
     H264Profile,
@@ -190,6 +195,7 @@ __all__ = [
     "Outcome",
     "PacketError",
     "Packetizer",
+    "Packing",
     "ParallelTool",
     "ParametersError",
     "Part",
@@ -231,6 +237,11 @@ __all__ = [
     "ShownPacket",
     "StapATooLong",
     "StreamError",
+    "UnitForbidden",
+    "UnitOfPacketType",
+    "UnitRefused",
+    "UnitTooLong",
+    "UnitWithoutHeader",
     "UnitsError",
     "UnknownCodec",
     "WrongEnd",

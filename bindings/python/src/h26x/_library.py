@@ -189,6 +189,13 @@ CALLS: Dict[str, Tuple[Any, List[Any]]] = {
     "packetize_into": _INTO,
     "packetize_unit_into": _INTO,
     "packets_size": (c_uint32, [_HANDLE, c_size_t, *_IN, c_size_t, _SIZE, _SIZE]),
+    "packetizer_set_packing": (c_uint32, [_HANDLE, c_uint32]),
+    "packetize_units": (c_uint32, [_HANDLE, c_size_t, *_IN, _SIZE, _WHY]),
+    "packetize_units_into": (
+        c_uint32,
+        [_HANDLE, c_size_t, *_IN, c_size_t, *_OUT, *_OUT, _SIZE, _SIZE, _WHY],
+    ),
+    "units_size": (c_uint32, [_HANDLE, c_size_t, *_IN, c_size_t, _SIZE, _SIZE, _WHY]),
     "packet_count": (c_size_t, [_HANDLE]),
     "packet_len": (c_size_t, [_HANDLE, c_size_t]),
     "packets_len": (c_size_t, [_HANDLE]),

@@ -155,6 +155,47 @@ class NothingYet(Error):
     code = 14
 
 
+class UnitRefused(Error, ValueError):
+    """A unit of an access unit can't go. It is the first that is told, and nothing is sent."""
+
+    @property
+    def place(self) -> int:
+        """Its place, from 0."""
+        return self.first
+
+    @property
+    def length(self) -> int:
+        """Its length in bytes."""
+        return self.second
+
+    def _numbers(self) -> str:
+        return f" (unit {self.place}, {self.length} bytes)"
+
+
+class UnitWithoutHeader(UnitRefused):
+    """It has no whole header: one byte of H.264, two of the others."""
+
+    code = 15
+
+
+class UnitForbidden(UnitRefused):
+    """Its forbidden bit is set."""
+
+    code = 16
+
+
+class UnitOfPacketType(UnitRefused):
+    """Its type is one of packets."""
+
+    code = 17
+
+
+class UnitTooLong(UnitRefused):
+    """It is longer than a packet, and no fragment may go or has room for data."""
+
+    code = 18
+
+
 class ParametersError(Error, ValueError):
     """A text is no format parameters. It is the first fault that is told."""
 
@@ -407,6 +448,10 @@ _ERRORS: Dict[int, Type[Error]] = {
         OutOfRange,
         NoRoom,
         NothingYet,
+        UnitWithoutHeader,
+        UnitForbidden,
+        UnitOfPacketType,
+        UnitTooLong,
         SdpOpenBrace,
         SdpNotANumber,
         SdpOutOfRange,

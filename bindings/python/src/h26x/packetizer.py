@@ -3,16 +3,34 @@
 from __future__ import annotations
 
 from ctypes import byref, c_size_t
+from enum import IntEnum
 from typing import Any, List, Optional, Tuple, Union
 
 from ._handle import Owner
-from ._library import Handle, library
+from ._library import Handle, Refusal, library
 from ._memory import Buffer, Ends, Room, Target, as_bytes, number
 from .codec import Codec, codec_of
-from .errors import NoRoom, check
+from .errors import NoRoom, check, error_of
 
 #: The largest packet size of H.265 and H.266 at first, in bytes.
 DEFAULT_MAX_PACKET_SIZE = 1200
+
+
+#: The calls that say which unit can't go.
+_NAMING = (library.h26x_packetize_units_into, library.h26x_units_size)
+
+
+class Packing(IntEnum):
+    """Which units of an access unit share packets."""
+
+    #: Those that fit one packet.
+    TOGETHER = 0
+    #: Of these, those that are no slices: a slice goes out at once.
+    BEFORE_SLICES = 1
+    #: None: with a packet one slice is lost.
+    APART = 2
+    #: None, and no unit goes in fragments (packetization-mode 0 of H.264; RFC 6184, 6.2).
+    SINGLE = 3
 
 
 class Packetizer(Owner):
@@ -43,9 +61,9 @@ class Packetizer(Owner):
 
     def _set_up(self, handle: Handle, codec: Codec, donl: bool, largest: Optional[int]) -> None:
         self._codec, self._donl, self._max_packet_size = codec, donl, largest
-        self._lowest_header = False
+        self._lowest_header, self._packing = False, Packing.TOGETHER
         self._room, self._ends = Room(), Ends()
-        self._count, self._size = c_size_t(), c_size_t()
+        self._count, self._size, self._why = c_size_t(), c_size_t(), Refusal()
         self._own(handle)
 
     @property
@@ -96,6 +114,18 @@ class Packetizer(Owner):
         check(self._with_handle(library.h26x_packetizer_set_lowest_header, value))
         self._lowest_header = value
 
+    @property
+    def packing(self) -> Packing:
+        """Which units share packets that `packetize_units` makes: TOGETHER at first. Setting it to a
+        number that no Packing has raises OutOfRange."""
+        return self._packing
+
+    @packing.setter
+    def packing(self, value: int) -> None:
+        asked = number("packing", value, 0xFFFFFFFF)
+        check(self._with_handle(library.h26x_packetizer_set_packing, asked))
+        self._packing = Packing(asked)
+
     def packetize(self, mtu: int, payload: Buffer) -> List[bytes]:
         """The RTP payloads of `payload`, in order, each of at most `mtu` bytes.
 
@@ -133,6 +163,19 @@ class Packetizer(Owner):
         """
         return self._packets(library.h26x_packetize_unit_into, mtu, unit)
 
+    def packetize_units(self, mtu: int, access_unit: Buffer) -> List[bytes]:
+        """The RTP payloads of one access unit in Annex B form, as an encoder gives it: every unit, in
+        order and as it is, whatever its kind, so several sets of a kind and delimiters arrive too.
+
+        With `packing` TOGETHER no sender that brings these units needs fewer packets (RFC 6184, 5.7.1;
+        RFC 7798, 4.4.2; RFC 9328, 4.3.2). Parameter sets that wait for `packetize` stay: one stream
+        uses the one call or the other.
+
+        Where a unit can't go nothing is sent, and a UnitRefused says which is the first, and why:
+        UnitWithoutHeader, UnitForbidden, UnitOfPacketType or UnitTooLong. Raises OutOfMemory too.
+        """
+        return self._packets(library.h26x_packetize_units_into, mtu, access_unit)
+
     def packetize_into(
         self,
         mtu: int,
@@ -164,21 +207,49 @@ class Packetizer(Owner):
         """The same as `packetize_into` of one unit as it is, as `packetize_unit` sends it."""
         return self._packets_into(library.h26x_packetize_unit_into, mtu, unit, into, headroom)
 
+    def packetize_units_into(
+        self,
+        mtu: int,
+        access_unit: Buffer,
+        into: Union[bytearray, memoryview],
+        headroom: int = 0,
+    ) -> List[int]:
+        """The same as `packetize_into` of one access unit, as `packetize_units` sends it."""
+        call = library.h26x_packetize_units_into
+        return self._packets_into(call, mtu, access_unit, into, headroom)
+
     def packets_size(self, mtu: int, payload: Buffer, headroom: int = 0) -> Tuple[int, int]:
         """How many packets `packetize_into` would make, and how many bytes they take with their
         headroom. The packetizer is left as it is. Raises OutOfMemory."""
-        mtu, headroom, data = number("mtu", mtu), number("headroom", headroom), as_bytes(payload)
+        return self._sizes(library.h26x_packets_size, mtu, payload, headroom)
+
+    def units_size(self, mtu: int, access_unit: Buffer, headroom: int = 0) -> Tuple[int, int]:
+        """The same of `packetize_units_into`. Raises what that does."""
+        return self._sizes(library.h26x_units_size, mtu, access_unit, headroom)
+
+    def _sizes(self, call: Any, mtu: int, data: Buffer, headroom: int) -> Tuple[int, int]:
+        mtu, headroom, data = number("mtu", mtu), number("headroom", headroom), as_bytes(data)
         with self._lock:
-            handle, counted = self._live(), (byref(self._count), byref(self._size))
-            check(library.h26x_packets_size(handle, mtu, data, len(data), headroom, *counted))
+            told = self._outputs(call)
+            self._check(call, call(self._live(), mtu, data, len(data), headroom, *told))
             return self._count.value, self._size.value
+
+    def _outputs(self, call: Any) -> Tuple[Any, ...]:
+        """Where a call tells how many packets there are, how many bytes, and which unit can't go."""
+        counted = (byref(self._count), byref(self._size))
+        return (*counted, byref(self._why)) if call in _NAMING else counted
+
+    def _check(self, call: Any, code: int) -> None:
+        if code != 0 and call in _NAMING:
+            raise error_of(code, self._why.first, self._why.second)
+        check(code)
 
     def copy(self) -> Packetizer:
         """The same packetizer again: the sets that wait, its next number, its settings. Raises
         OutOfMemory."""
         made = type(self).__new__(type(self))
         made._set_up(self._cloned(), self._codec, self._donl, self._max_packet_size)
-        made._lowest_header = self._lowest_header
+        made._lowest_header, made._packing = self._lowest_header, self._packing
         return made
 
     __copy__ = copy
@@ -232,11 +303,10 @@ class Packetizer(Owner):
             size,
             ends.address,
             ends.size,
-            byref(self._count),
-            byref(self._size),
+            *self._outputs(call),
         )
         if code == NoRoom.code:
             ends.grow(self._count.value)
             return False
-        check(code)
+        self._check(call, code)
         return True

@@ -8,6 +8,7 @@
 mod access_units;
 mod const_handle;
 mod copied;
+mod every_unit;
 pub mod exports;
 mod handle;
 mod paci;

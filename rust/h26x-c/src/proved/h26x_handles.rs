@@ -5,6 +5,7 @@
 //! what its last packet completed and had no room for in the caller's memory; or a receiver of access
 //! units, with the one that had no room.
 pub mod access_units;
+mod every_unit;
 pub mod headers;
 pub mod receiving;
 pub mod sending;

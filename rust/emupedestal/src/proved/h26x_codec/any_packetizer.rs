@@ -148,6 +148,22 @@ impl AnyPacketizer {
         }
     }
 
+    /// How much memory the packets of units take, each behind so many bytes. Nothing changes, and the
+    /// first unit that can't go is named.
+    pub fn units_size<'a>(
+        &self,
+        packing: Packing,
+        mtu: usize,
+        units: &'a [&'a [u8]],
+        headroom: usize,
+    ) -> Result<PacketsSize, EveryUnitError> {
+        match self {
+            AnyPacketizer::H264(it) => it.units_size(packing, mtu, units, headroom),
+            AnyPacketizer::H265(it) => it.units_size(packing, mtu, units, headroom),
+            AnyPacketizer::H266(it) => it.units_size(packing, mtu, units, headroom),
+        }
+    }
+
     /// Copies the packets of a payload straight to memory where they fit; else nothing is done.
     pub fn packetize_to_memory(
         &mut self,
@@ -178,6 +194,29 @@ impl AnyPacketizer {
             AnyPacketizer::H264(it) => it.packetize_unit_to_memory(mtu, unit, headroom, to, ends),
             AnyPacketizer::H265(it) => it.packetize_unit_to_memory(mtu, unit, headroom, to, ends),
             AnyPacketizer::H266(it) => it.packetize_unit_to_memory(mtu, unit, headroom, to, ends),
+        }
+    }
+
+    /// Copies the packets of units straight to memory where they fit; else nothing is done.
+    pub fn packetize_units_to_memory<'a>(
+        &mut self,
+        packing: Packing,
+        mtu: usize,
+        units: &'a [&'a [u8]],
+        headroom: usize,
+        to: &mut [u8],
+        ends: &mut [usize],
+    ) -> Result<Placement, EveryUnitError> {
+        match self {
+            AnyPacketizer::H264(it) => {
+                it.packetize_units_to_memory(packing, mtu, units, headroom, to, ends)
+            }
+            AnyPacketizer::H265(it) => {
+                it.packetize_units_to_memory(packing, mtu, units, headroom, to, ends)
+            }
+            AnyPacketizer::H266(it) => {
+                it.packetize_units_to_memory(packing, mtu, units, headroom, to, ends)
+            }
         }
     }
 }

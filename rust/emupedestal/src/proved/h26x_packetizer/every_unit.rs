@@ -5,8 +5,10 @@
 use crate::proved::h26x_packetizer::buffer::{Appending, PacketBuffer};
 use crate::proved::h26x_packetizer::every::push_units;
 use crate::proved::h26x_packetizer::every_format::EveryFormat;
+use crate::proved::h26x_packetizer::packet_parts::PacketParts;
 use crate::proved::h26x_packetizer::packetizer::PayloadPacketizer;
 use crate::proved::h26x_packetizer::packing::Packing;
+use crate::proved::h26x_packetizer::placement::{PacketsSize, Placement, place, size_of};
 use crate::proved::h26x_packetizer::refusal::{RefusedUnit, units_refusal};
 use crate::proved::h26x_packetizer::sink::PacketSink;
 use crate::proved::h26x_packetizer::update::Update;
@@ -92,6 +94,56 @@ impl<C: EveryFormat> PayloadPacketizer<C> {
                 Err(e)
             }
         }
+    }
+
+    /// How much memory the packets of units take, each behind `headroom` bytes, as
+    /// [`packetize_units_to_memory`](PayloadPacketizer::packetize_units_to_memory) would place them
+    /// now. Nothing changes, and units are refused as there.
+    pub fn units_size<'a>(
+        &self,
+        packing: Packing,
+        mtu: usize,
+        units: &'a [&'a [u8]],
+        headroom: usize,
+    ) -> Result<PacketsSize, EveryUnitError> {
+        let mut made: Vec<PacketParts<'a>> = Vec::new();
+        self.prepare_units(packing, mtu, units, &mut made)?;
+        Ok(size_of(&made, headroom))
+    }
+
+    /// Copies the packets of units to memory where they fit, and tells what the call changes.
+    fn prepare_units_placed<'a>(
+        &self,
+        packing: Packing,
+        mtu: usize,
+        units: &'a [&'a [u8]],
+        headroom: usize,
+        to: &mut [u8],
+        ends: &mut [usize],
+    ) -> Result<(Placement, Update), EveryUnitError> {
+        let mut made: Vec<PacketParts<'a>> = Vec::new();
+        let update = self.prepare_units(packing, mtu, units, &mut made)?;
+        Ok((place(&made, headroom, to, ends), update))
+    }
+
+    /// Copies the packets of [`packetize_units`](PayloadPacketizer::packetize_units) straight to memory
+    /// of the caller, as [`packetize_to_memory`](PayloadPacketizer::packetize_to_memory) does those of
+    /// a payload.
+    pub fn packetize_units_to_memory<'a>(
+        &mut self,
+        packing: Packing,
+        mtu: usize,
+        units: &'a [&'a [u8]],
+        headroom: usize,
+        to: &mut [u8],
+        ends: &mut [usize],
+    ) -> Result<Placement, EveryUnitError> {
+        let (placement, update) =
+            self.prepare_units_placed(packing, mtu, units, headroom, to, ends)?;
+        if let Placement::Placed(_) = placement {
+            self.commit(update);
+        }
+        Ok(placement)
     }
 }
 

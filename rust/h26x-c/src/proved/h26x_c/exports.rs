@@ -217,6 +217,97 @@ pub unsafe extern "C" fn h26x_access_units_count(
 }
 
 #[unsafe(no_mangle)]
+pub unsafe extern "C" fn h26x_packetizer_set_packing(p: *mut Handle, packing: u32) -> u32 {
+    // SAFETY: a caller owes what the header says.
+    unsafe { super::every_unit::h26x_packetizer_set_packing(pointers::lent(p), packing) }
+}
+
+#[unsafe(no_mangle)]
+pub unsafe extern "C" fn h26x_packetize_units(
+    p: *mut Handle,
+    mtu: usize,
+    access_unit: *const u8,
+    access_unit_len: usize,
+    count: *mut usize,
+    why: *mut Refusal,
+) -> u32 {
+    let mut no_count = MaybeUninit::uninit();
+    let mut no_why = MaybeUninit::uninit();
+    // SAFETY: a caller owes what the header says.
+    unsafe {
+        super::every_unit::h26x_packetize_units(
+            pointers::lent(p),
+            mtu,
+            pointers::bytes(access_unit, access_unit_len),
+            pointers::output(count, &mut no_count),
+            pointers::output(why, &mut no_why),
+        )
+    }
+}
+
+#[unsafe(no_mangle)]
+pub unsafe extern "C" fn h26x_units_size(
+    p: *const ConstHandle,
+    mtu: usize,
+    access_unit: *const u8,
+    access_unit_len: usize,
+    headroom: usize,
+    count: *mut usize,
+    size: *mut usize,
+    why: *mut Refusal,
+) -> u32 {
+    let mut no_count = MaybeUninit::uninit();
+    let mut no_size = MaybeUninit::uninit();
+    let mut no_why = MaybeUninit::uninit();
+    // SAFETY: a caller owes what the header says.
+    unsafe {
+        super::every_unit::h26x_units_size(
+            pointers::shared(p),
+            mtu,
+            pointers::bytes(access_unit, access_unit_len),
+            headroom,
+            pointers::output(count, &mut no_count),
+            pointers::output(size, &mut no_size),
+            pointers::output(why, &mut no_why),
+        )
+    }
+}
+
+#[unsafe(no_mangle)]
+pub unsafe extern "C" fn h26x_packetize_units_into(
+    p: *mut Handle,
+    mtu: usize,
+    access_unit: *const u8,
+    access_unit_len: usize,
+    headroom: usize,
+    to: *mut u8,
+    room: usize,
+    ends: *mut usize,
+    ends_room: usize,
+    count: *mut usize,
+    size: *mut usize,
+    why: *mut Refusal,
+) -> u32 {
+    let mut no_count = MaybeUninit::uninit();
+    let mut no_size = MaybeUninit::uninit();
+    let mut no_why = MaybeUninit::uninit();
+    // SAFETY: a caller owes what the header says.
+    unsafe {
+        super::every_unit::h26x_packetize_units_into(
+            pointers::lent(p),
+            mtu,
+            pointers::bytes(access_unit, access_unit_len),
+            headroom,
+            pointers::room(to, room),
+            pointers::room(ends, ends_room),
+            pointers::output(count, &mut no_count),
+            pointers::output(size, &mut no_size),
+            pointers::output(why, &mut no_why),
+        )
+    }
+}
+
+#[unsafe(no_mangle)]
 pub unsafe extern "C" fn h26x_h265_paci_packet(
     unit: *const u8,
     unit_len: usize,

@@ -6,7 +6,7 @@ use crate::proved::h26x_codec::Codec;
 use crate::proved::h26x_core::{
     CodecExtra, H264CodecExtra, H265CodecExtra, H266CodecExtra, PacketError,
 };
-use crate::proved::h26x_packetizer::{PacketsSize, Placement};
+use crate::proved::h26x_packetizer::{EveryUnitError, PacketsSize, Packing, Placement, WhyRefused};
 use crate::proved::h26x_receiver::Received;
 use core::mem::MaybeUninit;
 
@@ -40,6 +40,18 @@ pub const NO_ROOM: u32 = 13;
 /// No access unit has ended.
 pub const NOTHING_YET: u32 = 14;
 
+/// A unit has no whole header.
+pub const UNIT_WITHOUT_HEADER: u32 = 15;
+
+/// The forbidden bit of a unit is set.
+pub const UNIT_FORBIDDEN: u32 = 16;
+
+/// A unit has a type of packets.
+pub const UNIT_OF_PACKET_TYPE: u32 = 17;
+
+/// A unit is longer than a packet, and no fragment has room for its data, or none may go.
+pub const UNIT_TOO_LONG: u32 = 18;
+
 /// The two numbers of a refusal.
 #[repr(C)]
 #[derive(Clone, Copy)]
@@ -62,6 +74,38 @@ pub fn code_of(error: PacketError, why: &mut MaybeUninit<Refusal>) -> u32 {
     };
     why.write(Refusal { first, second });
     code
+}
+
+/// Why a unit can't go, as a code.
+fn code_of_unit(why: WhyRefused) -> u32 {
+    match why {
+        WhyRefused::WithoutHeader => UNIT_WITHOUT_HEADER,
+        WhyRefused::Forbidden => UNIT_FORBIDDEN,
+        WhyRefused::OfPacketType => UNIT_OF_PACKET_TYPE,
+        WhyRefused::TooLong => UNIT_TOO_LONG,
+    }
+}
+
+/// The code of a refusal of units, and its numbers: the place of the first that can't go, and its
+/// length in bytes.
+pub fn code_of_units(error: EveryUnitError, why: &mut MaybeUninit<Refusal>) -> u32 {
+    let (code, first, second) = match error {
+        EveryUnitError::Unit(unit) => (code_of_unit(unit.why), unit.place, unit.len),
+        EveryUnitError::OutOfMemory => (OUT_OF_MEMORY, 0, 0),
+    };
+    why.write(Refusal { first, second });
+    code
+}
+
+/// Which units share packets, by its number.
+pub fn packing_of(number: u32) -> Option<Packing> {
+    match number {
+        0 => Some(Packing::Together),
+        1 => Some(Packing::BeforeSlices),
+        2 => Some(Packing::Apart),
+        3 => Some(Packing::Single),
+        _ => None,
+    }
 }
 
 /// The codec with a number, which is that of its standard.

@@ -7,20 +7,21 @@ use crate::proved::h26x_codes::code::may_have_donl;
 use crate::proved::h26x_codes::copy::{bytes_from, copy_packets};
 use crate::proved::h26x_core::PacketError;
 use crate::proved::h26x_handles::headers::{headers_wanted, set_headers, set_placed_headers};
-use crate::proved::h26x_packetizer::{PacketBuffer, Placement};
+use crate::proved::h26x_packetizer::{PacketBuffer, Packing, Placement};
 use core::mem;
 
-/// A packetizer of a codec, the packets of its last call, and whether aggregates of H.265 get the
-/// header of their units.
+/// A packetizer of a codec, the packets of its last call, whether aggregates of H.265 get the header
+/// of their units, and which units of an access unit share packets.
 pub struct SendingEndpoint {
     /// The packetizer.
     pub packetizer: AnyPacketizer,
     // As the packetizer has it.
     has_donl: bool,
     lowest_header: bool,
-    packets: PacketBuffer,
+    pub(crate) packing: Packing,
+    pub(crate) packets: PacketBuffer,
     // Where a call writes: the packets of before stay until it is carried out.
-    spare: PacketBuffer,
+    pub(crate) spare: PacketBuffer,
 }
 
 impl SendingEndpoint {
@@ -30,6 +31,7 @@ impl SendingEndpoint {
             packetizer: AnyPacketizer::new(codec, has_donl),
             has_donl: has_donl && may_have_donl(codec),
             lowest_header: false,
+            packing: Packing::Together,
             packets: PacketBuffer::new(0),
             spare: PacketBuffer::new(0),
         }
@@ -41,6 +43,7 @@ impl SendingEndpoint {
             packetizer: self.packetizer.try_clone()?,
             has_donl: self.has_donl,
             lowest_header: self.lowest_header,
+            packing: self.packing,
             packets: PacketBuffer::new(0),
             spare: PacketBuffer::new(0),
         })
@@ -65,6 +68,11 @@ impl SendingEndpoint {
     /// Sets whether aggregates of H.265 get the header of their units (RFC 7798, 4.4.2).
     pub fn with_lowest_header(&mut self, lowest_header: bool) {
         self.lowest_header = lowest_header;
+    }
+
+    /// Sets which units of an access unit share packets, where every unit goes.
+    pub fn with_packing(&mut self, packing: Packing) {
+        self.packing = packing;
     }
 
     /// Where aggregates get the header of their units: whether packets bear decoding order numbers.
