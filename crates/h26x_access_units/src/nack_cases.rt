@@ -1,4 +1,5 @@
-//! Worked cases of missing numbers that are asked for, each the contract of a function without a result.
+//! Worked cases of missing numbers that are asked for, each the contract of a function without a
+//! result.
 
 ghost use Rattle.std.specs.Prelude.{◌≡◌, ◌-◌, ◌^◌, [], ◌∷◌};
 ghost use Rattle.h26x_access_units.specs.Nacks.{nack, nacks_now, nack_among, AreNumbersInOrder, nack_times_of, numbers_due, nacks_asked};

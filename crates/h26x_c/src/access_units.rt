@@ -318,8 +318,8 @@ pub extern "C" fn h26x_access_units_missing(
     }
 }
 
-/// Copies the missing numbers that are to be asked for at this tick, as many as there is room for, which
-/// count as asked for.
+/// Copies the missing numbers that are to be asked for at this tick, as many as there is room for,
+/// which count as asked for.
 #[unsafe(no_mangle)]
 pub extern "C" fn h26x_access_units_nacks(
     u: &mut Handle,
@@ -336,7 +336,8 @@ pub extern "C" fn h26x_access_units_nacks(
         count.new ≡ length (units_nacks (nack_times times.now) now (length numbers.old) it)) }
     ensures copied { Where (endpoint_units u.old.value) (λ it. result ≡ ok → numbers.new
         ≡ with_first (units_nacks (nack_times times.now) now (length numbers.old) it) numbers.old) }
-    ensures after { Where (endpoint_units u.old.value) (λ it. result ≡ ok → endpoint_units u.new.value
+    ensures after { Where (endpoint_units u.old.value) (λ it. result ≡ ok →
+        endpoint_units u.new.value
         ≡ Some (units_nacked (nack_times times.now) now (length numbers.old) it)) }
     ensures kept { result ≢ ok → endpoint_units u.new.value ≡ endpoint_units u.old.value }
     ensures none { result ≢ ok → (count.new ≡ 0) × (numbers.new ≡ numbers.old) }

@@ -1,8 +1,5 @@
 // Made from crates/h26x_access_units/src/lib.rt by tools/to-rust.
 
-//! RTP packets as they come from a network, in any order, some lost and some twice, and out of them
-//! access units of H.264, H.265 or H.266, one after the other: a jitter buffer with a window, a time
-//! and a limit on bytes before an assembler.
 mod arrival;
 mod bits;
 mod config;

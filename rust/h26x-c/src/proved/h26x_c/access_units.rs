@@ -246,8 +246,8 @@ pub fn h26x_access_units_missing(
     }
 }
 
-/// Copies the missing numbers that are to be asked for at this tick, as many as there is room for, which
-/// count as asked for.
+/// Copies the missing numbers that are to be asked for at this tick, as many as there is room for,
+/// which count as asked for.
 pub fn h26x_access_units_nacks(
     u: &mut Handle,
     now: u32,
@@ -258,8 +258,8 @@ pub fn h26x_access_units_nacks(
     count.write(0);
     match u.get_mut() {
         Endpoint::AccessUnits(it) => match it.nacks(now, nack_times(times), numbers) {
-            Ok(all) => {
-                count.write(all);
+            Ok(asked) => {
+                count.write(asked);
                 OK
             }
             Err(_) => OUT_OF_MEMORY,

@@ -202,8 +202,8 @@ impl AccessUnitEndpoint {
         to: &mut [u16],
     ) -> Result<usize, PacketError> {
         let missing = self.receiver.missing()?;
-        let numbers = self.nacks.due(&missing, times, now, to.len())?;
-        Ok(copy_first(&numbers, to))
+        let asked = self.nacks.due(&missing, times, now, to.len())?;
+        Ok(copy_first(&asked, to))
     }
 
     /// Says the number of the first packet of the stream; the answer is whether none came, no number
