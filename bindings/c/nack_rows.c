@@ -62,9 +62,10 @@ static void walk(struct tally *t, char *row)
             expect(t, h26x_access_units_restart(&u) == H26X_OK);
         } else {
             const unsigned number = (unsigned)strtoul(step, NULL, 10);
-            expect(t, h26x_access_units_push(&u, 0, (uint16_t)number, number * 9, true, slice, sizeof slice, &pushed, NULL)
-                              == H26X_OK
-                          && pushed == H26X_HELD);
+            expect(t,
+                   h26x_access_units_push(&u, 0, (uint16_t)number, number * 9, true, slice, sizeof slice, &pushed, NULL)
+                           == H26X_OK
+                       && pushed == H26X_HELD);
             take(t, &u);
         }
     }

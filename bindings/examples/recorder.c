@@ -197,7 +197,6 @@ struct recorder {
     socklen_t sender_len;
     uint32_t source;
     bool has_come, asks;  /* whether one came, and whether a keyframe was asked for */
-    uint32_t asked_at;    /* when packets were asked for */
     uint8_t *unit, *text; /* room for an access unit, and all that is recorded */
     size_t room, len, recorded;
 };
@@ -284,19 +283,15 @@ static bool take_units(struct recorder *r, uint32_t now)
     return true;
 }
 
-/* Asks for packets that are missing. */
+/* Asks for packets that are missing, each at once, and again. */
 static bool ask_again(struct recorder *r, uint32_t now)
 {
+    const h26x_nack_times times = {.first = 0, .again = ASK_EACH, .most = MAX_WAIT / ASK_EACH};
     uint16_t numbers[ASKED];
     uint8_t packet[RTCP_ROOM];
     size_t count = 0, asked;
-    if (now - r->asked_at < ASK_EACH)
-        return true;
-    r->asked_at = now;
-    if (h26x_access_units_missing(&r->units, numbers, ASKED, &count) != H26X_OK)
+    if (h26x_access_units_nacks(&r->units, now, &times, numbers, ASKED, &count) != H26X_OK)
         return fail("no memory");
-    if (count > ASKED)
-        count = ASKED;
     for (size_t from = 0; from < count; from += asked) {
         const size_t len = rtcp_write_nack(packet, r->source, numbers + from, count - from, &asked);
         if (!say(r, packet, len))

@@ -2,7 +2,7 @@
 //! for packets that are missing (NACK), and for a keyframe where a decoder couldn't go on (PLI). RTCP goes to
 //! where RTP comes from (RFC 5761), without reports (RFC 5506). It ends with the sender's BYE.
 
-use emupedestal::{AccessUnitConfig, AccessUnitReceiver, Codec, RtpPacket};
+use emupedestal::{AccessUnitConfig, AccessUnitReceiver, Codec, NackTimes, RtpPacket};
 use std::net::{SocketAddr, UdpSocket};
 use std::time::{Duration, Instant};
 use std::{env, error::Error, fs::File, io::ErrorKind, io::Write};
@@ -25,8 +25,8 @@ struct Recorder {
     /// Who sends: where from, and with which SSRC.
     sender: Option<(SocketAddr, u32)>,
     begin: Instant,
-    /// When packets and a keyframe may be asked for again.
-    retry: (u32, u32),
+    /// When a keyframe may be asked for again.
+    retry: u32,
 }
 
 /// Records until the stream is over.
@@ -41,7 +41,7 @@ pub fn record(socket: UdpSocket, file: File) -> Outcome {
         receiver: AccessUnitReceiver::new(Codec::H264, config),
         sender: None,
         begin: Instant::now(),
-        retry: (0, 0),
+        retry: 0,
     };
     while recorder.receive()? {
         recorder.write_units()?;
@@ -87,8 +87,8 @@ impl Recorder {
         while let Some(unit) = self.receiver.next(self.now())? {
             if unit.is_clean {
                 self.file.write_all(&unit.bytes)?;
-            } else if self.now() >= self.retry.1 {
-                self.retry.1 = self.now() + MAX_WAIT;
+            } else if self.now() >= self.retry {
+                self.retry = self.now() + MAX_WAIT;
                 self.send(206, &[])?;
             }
             self.receiver.give_back(unit);
@@ -96,11 +96,15 @@ impl Recorder {
         Ok(())
     }
 
-    /// Asks again for what is missing (NACK: RFC 4585, 6.2.1).
+    /// Asks for what is missing, at once and again (NACK: RFC 4585, 6.2.1).
     fn ask_again(&mut self) -> Outcome {
-        let missing = self.receiver.missing()?;
-        if !missing.is_empty() && self.now() >= self.retry.0 {
-            self.retry.0 = self.now() + RETRY;
+        let times = NackTimes {
+            first: 0,
+            again: RETRY,
+            most: (MAX_WAIT / RETRY) as u8,
+        };
+        let missing = self.receiver.nacks(self.now(), times, 256)?;
+        if !missing.is_empty() {
             let each = missing.iter().map(|it| u32::from(*it) << 16);
             self.send(205, &each.collect::<Vec<u32>>())?;
         }
