@@ -20,7 +20,7 @@ use Rattle.h26x_access_units.specs.declared.pushed.NotPushedReason.TheVariants a
 use Rattle.h26x_access_units.specs.Numbers.{bears_nothing}
 use Rattle.h26x_access_units.specs.Pushed.{is_kept, IsNotPushedReason}
 use Rattle.h26x_access_units.specs.ReceivedAccessUnit.{ReceivedAccessUnitValue}
-use Rattle.h26x_access_units.specs.Reception.{Reception, IsAnswerTo, begun_for, believed, assembly_after, marker_forgotten, reception_answer, refused_reception, ended_reception, restarted, with_settings, begun_reception, IsPushed, IsNext, IsDrainedInPart}
+use Rattle.h26x_access_units.specs.Reception.{Reception, IsAnswerTo, begun_for, believed, assembly_after, marker_forgotten, is_behind_missing, ends_before, reception_answer, refused_reception, ended_reception, restarted, with_settings, begun_reception, IsPushed, IsNext, IsDrainedInPart}
 
 -- a call of a receiver, with its tick and what it answered: `push`; `push_held` whose packet came back;
 -- `next`; `next` for which memory lacked; `finish`; `restart`; `set_config`; `begin_at`
@@ -36,8 +36,8 @@ pub data ReceiverCall : Type 0 where
 
 -- what a call makes of a receiver
 abbrev pub IsCall : ReceiverCall → Reception → Reception → Type 0
-IsCall (PushCall now p answer) s new = (p.0 < 2 ^ 16) × (answer ≡ reception_answer s p)
-    × IsPushed now s p answer new
+IsCall (PushCall now p answer) s new = (p.0 < 2 ^ 16) × (length p.1.payload < 2 ^ 64)
+    × (answer ≡ reception_answer s p) × IsPushed now s p answer new
 IsCall (BackCall p reason) s new = IsNotPushedReason (reception_answer s p) reason
     × (new ≡ refused_reception s reason)
 IsCall (NextCall now unit) s new = IsNext now s new unit
@@ -74,27 +74,29 @@ ends_stream FinishCall = true
 ends_stream RestartCall = true
 ends_stream call = false
 
--- whether a call tells that a packet came twice, that it waits alone, that the stream begins anew with
--- it, or that it is late
-abbrev pub tells_twice : ReceiverCall → Bool
-tells_twice (PushCall now p pushes.Twice) = true
-tells_twice (BackCall p reasons.Twice) = true
-tells_twice call = false
-
-abbrev pub tells_stray : ReceiverCall → Bool
-tells_stray (PushCall now p pushes.Stray) = true
-tells_stray call = false
-
-abbrev pub tells_anew : ReceiverCall → Bool
-tells_anew (PushCall now p pushes.Anew) = true
-tells_anew call = false
-
+-- whether a call tells that a packet is late
 abbrev pub tells_late : ReceiverCall → Bool
 tells_late (PushCall now p (pushes.Late n)) = true
 tells_late (BackCall p (reasons.Late n)) = true
 tells_late call = false
 
--- how many calls do
+-- that it came twice
+abbrev pub tells_twice : ReceiverCall → Bool
+tells_twice (PushCall now p pushes.Twice) = true
+tells_twice (BackCall p reasons.Twice) = true
+tells_twice call = false
+
+-- that it waits alone
+abbrev pub tells_stray : ReceiverCall → Bool
+tells_stray (PushCall now p pushes.Stray) = true
+tells_stray call = false
+
+-- that the stream begins anew with it
+abbrev pub tells_anew : ReceiverCall → Bool
+tells_anew (PushCall now p pushes.Anew) = true
+tells_anew call = false
+
+-- how many calls pass a test
 abbrev pub call_count : (ReceiverCall → Bool) → List ReceiverCall → ℕ
 call_count test [] = 0
 call_count test (call ∷ before) =
@@ -152,10 +154,10 @@ pub record AreHandedInOrder (calls : List ReceiverCall) (s : Reception) (a : Acc
   pub due : IsDueBehind s.waiting.buffer.due a.handed
   pub waits : IsHeldInOrder s.waiting.buffer.due s.waiting.buffer.held
 
--- What an assembler of access units is that took these packets, the last one first: it is new; a packet
--- was answered so, with its marker where that is believed; the access unit that is open ended by
--- itself, or with the stream; the number of the first packet was told; or all was dropped that had not
--- been given out.
+-- What an assembler of access units is that took these packets, the last one first: it is new; a
+-- packet was answered so, with its marker where that is believed; the access unit that is open ended
+-- before a packet that begins another, or with its stream; the number of the first packet was told; or
+-- all was dropped that had not been given out.
 pub data IsAssemblerOf : List (ℕ × RtpBody) → Assembly → Type 0 where
   new_assembler : (state : DepacketizerState) →
       IsAssemblerOf [] (open_assembly state None none_open [])
@@ -164,8 +166,9 @@ pub data IsAssemblerOf : List (ℕ × RtpBody) → Assembly → Type 0 where
       IsAssemblerOf before a → IsAnswerTo most (begun_for a p) (believed framing p) answer →
       (answer ≡ Err OutOfMemory → ⊥) → IsAssemblerOf (p ∷ before)
       (marker_forgotten (assembly_after most limit (begun_for a p) (believed framing p) answer))
-  unit_ended : (before : List (ℕ × RtpBody)) (a : Assembly) → IsAssemblerOf before a →
-      IsAssemblerOf before (after_ending a)
+  unit_ended : (framing : Framing) (p : ℕ × RtpBody) (before : List (ℕ × RtpBody))
+      (a : Assembly) → IsAssemblerOf before a → ends_before a framing p ≡ true →
+      IsAssemblerOf before (if is_behind_missing a p.0 then after_finishing a else after_ending a)
   stream_ended : (before : List (ℕ × RtpBody)) (a : Assembly) → IsAssemblerOf before a →
       IsAssemblerOf before (after_finishing a)
   number_told : (number : ℕ) (before : List (ℕ × RtpBody)) (a : Assembly) →
@@ -196,16 +199,16 @@ pub record AreGivenAssembled (calls : List ReceiverCall) (s : Reception) (a : Ac
       (record s.assembler { ended = gone ++ s.assembler.ended })
   pub texts : texts_given calls ≡ texts_of gone
 
--- The counts are exact: of packets that came twice, or waited alone, of streams that began anew, and of
--- access units that were given out; and each packet that was handed on is counted once, as one that was
--- taken, skipped or refused, that bears no unit, or that is late, with those that were told late.
+-- The counts are exact: of packets told late, that came twice or waited alone, of streams that began
+-- anew, and of access units given out; and each packet that was handed on is counted once, as one
+-- that was taken, skipped or refused, or that bears no unit: none is late then.
 pub record AreCountsExact (calls : List ReceiverCall) (c : Counts) (a : Account) : Type 0 where
+  pub late : c.late ≡ call_count tells_late calls
   pub twice : c.twice ≡ call_count tells_twice calls
   pub stray : c.stray ≡ call_count tells_stray calls
   pub anew : c.anew ≡ call_count tells_anew calls
   pub units : c.units ≡ length (texts_given calls)
-  pub handed : c.taken + c.skipped + c.refused + c.no_unit + c.late
-      ≡ length (a.handed ++ a.earlier) + call_count tells_late calls
+  pub handed : c.taken + c.skipped + c.refused + c.no_unit ≡ length (a.handed ++ a.earlier)
 
 -- all of this; the counts where fewer calls were made than they go to
 pub record IsAccounted (calls : List ReceiverCall) (s : Reception) : Type 0 where
