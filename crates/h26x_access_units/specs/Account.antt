@@ -1,5 +1,5 @@
--- What becomes of the packets that are given to a receiver, by the whole list of calls (RFC 3550, 5.1,
--- A.1; ours).
+-- What becomes of the packets that are given to a receiver, by the whole list of calls (RFC 3550,
+-- 5.1, A.1; ours).
 use Rattle.std.specs.Prelude.{◌≡◌, ℕ, ◌+◌, ◌≤◌, ◌<◌, ◌^◌, Bool, true, false, if◌then◌else◌, List, [], ◌∷◌, ◌++◌, length, Option, Some, None, Result, Err, IsPermutation}
 use Rattle.std.specs.List.{list_any}
 use Rattle.h26x_core.specs.declared.error.PacketError.{PacketError}
@@ -20,10 +20,10 @@ use Rattle.h26x_access_units.specs.declared.pushed.NotPushedReason.TheVariants a
 use Rattle.h26x_access_units.specs.Numbers.{bears_nothing}
 use Rattle.h26x_access_units.specs.Pushed.{is_kept, IsNotPushedReason}
 use Rattle.h26x_access_units.specs.ReceivedAccessUnit.{ReceivedAccessUnitValue}
-use Rattle.h26x_access_units.specs.Reception.{Reception, IsAnswerTo, begun_for, believed, assembly_after, marker_forgotten, reception_answer, refused_reception, ended_reception, restarted, with_settings, begun_reception, IsPushed, IsNext, IsDrainedInPart}
+use Rattle.h26x_access_units.specs.Reception.{Reception, IsAnswerTo, begun_for, believed, assembly_after, marker_forgotten, is_behind_missing, ends_before, reception_answer, refused_reception, ended_reception, restarted, with_settings, begun_reception, IsPushed, IsNext, IsDrainedInPart}
 
--- a call of a receiver, with its tick and what it answered: `push`; `push_held` whose packet came back;
--- `next`; `next` for which memory lacked; `finish`; `restart`; `set_config`; `begin_at`
+-- a call of a receiver, with its tick and what it answered: `push`; `push_held` whose packet came
+-- back; `next`; `next` for which memory lacked; `finish`; `restart`; `set_config`; `begin_at`
 pub data ReceiverCall : Type 0 where
   PushCall : (now : ℕ) (packet : ℕ × RtpBody) (answer : Pushed) → ReceiverCall
   BackCall : (packet : ℕ × RtpBody) (reason : NotPushedReason) → ReceiverCall
@@ -36,8 +36,8 @@ pub data ReceiverCall : Type 0 where
 
 -- what a call makes of a receiver
 abbrev pub IsCall : ReceiverCall → Reception → Reception → Type 0
-IsCall (PushCall now p answer) s new = (p.0 < 2 ^ 16) × (answer ≡ reception_answer s p)
-    × IsPushed now s p answer new
+IsCall (PushCall now p answer) s new = (p.0 < 2 ^ 16) × (length p.1.payload < 2 ^ 64)
+    × (answer ≡ reception_answer s p) × IsPushed now s p answer new
 IsCall (BackCall p reason) s new = IsNotPushedReason (reception_answer s p) reason
     × (new ≡ refused_reception s reason)
 IsCall (NextCall now unit) s new = IsNext now s new unit
@@ -60,8 +60,20 @@ kept_packets (PushCall now p answer ∷ before) =
     if is_kept answer then p ∷ kept_packets before else kept_packets before
 kept_packets (call ∷ before) = kept_packets before
 
--- whether packets that were kept may be dropped by a call or since: one waits alone, and it or those
--- that wait may be left for the others, or `restart` drops all
+-- those of them that were told to wait alone
+abbrev pub stray_packets : List ReceiverCall → List (ℕ × RtpBody)
+stray_packets [] = []
+stray_packets (PushCall now p pushes.Stray ∷ before) = p ∷ stray_packets before
+stray_packets (call ∷ before) = stray_packets before
+
+-- whether by a call all that waits is dropped: the stream begins anew, or by `restart`
+abbrev pub drops_all : ReceiverCall → Bool
+drops_all (PushCall now p pushes.Anew) = true
+drops_all RestartCall = true
+drops_all call = false
+
+-- whether packets that were kept may be dropped by a call or since: one waits alone, and it or
+-- those that wait may be left for the others, or `restart` drops all
 abbrev pub may_drop : ReceiverCall → Bool
 may_drop (PushCall now p pushes.Stray) = true
 may_drop RestartCall = true
@@ -74,34 +86,37 @@ ends_stream FinishCall = true
 ends_stream RestartCall = true
 ends_stream call = false
 
--- whether a call tells that a packet came twice, that it waits alone, that the stream begins anew with
--- it, or that it is late
-abbrev pub tells_twice : ReceiverCall → Bool
-tells_twice (PushCall now p pushes.Twice) = true
-tells_twice (BackCall p reasons.Twice) = true
-tells_twice call = false
-
-abbrev pub tells_stray : ReceiverCall → Bool
-tells_stray (PushCall now p pushes.Stray) = true
-tells_stray call = false
-
-abbrev pub tells_anew : ReceiverCall → Bool
-tells_anew (PushCall now p pushes.Anew) = true
-tells_anew call = false
-
+-- whether a call tells that a packet is late
 abbrev pub tells_late : ReceiverCall → Bool
 tells_late (PushCall now p (pushes.Late n)) = true
 tells_late (BackCall p (reasons.Late n)) = true
 tells_late call = false
 
--- how many calls do
+-- that it came twice
+abbrev pub tells_twice : ReceiverCall → Bool
+tells_twice (PushCall now p pushes.Twice) = true
+tells_twice (BackCall p reasons.Twice) = true
+tells_twice call = false
+
+-- that it waits alone
+abbrev pub tells_stray : ReceiverCall → Bool
+tells_stray (PushCall now p pushes.Stray) = true
+tells_stray call = false
+
+-- that the stream begins anew with it
+abbrev pub tells_anew : ReceiverCall → Bool
+tells_anew (PushCall now p pushes.Anew) = true
+tells_anew call = false
+
+-- how many calls pass a test
 abbrev pub call_count : (ReceiverCall → Bool) → List ReceiverCall → ℕ
 call_count test [] = 0
 call_count test (call ∷ before) =
     if test call then call_count test before + 1 else call_count test before
 
--- What became of the packets that were kept, the last one first: those of the stream that were handed
--- to the assembler of access units, those of so many streams before, and those that were dropped.
+-- What became of the packets that were kept, the last one first: those of the stream that were
+-- handed to the assembler of access units, those of so many streams before, and those that were
+-- dropped.
 pub record Account : Type 0 where
   pub handed : List (ℕ × RtpBody)
   pub earlier : List (ℕ × RtpBody)
@@ -117,12 +132,21 @@ abbrev pub packet_alone : Option (ℕ × RtpBody) → List (ℕ × RtpBody)
 packet_alone None = []
 packet_alone (Some stray) = stray ∷ []
 
+-- Those dropped, the packet that waits alone, and others that joined those that wait were told to
+-- wait alone, each once.
+pub record AreDroppedStrays (told dropped : List (ℕ × RtpBody)) (stray : Option (ℕ × RtpBody)) : Type 0
+  where
+    pub joined : List (ℕ × RtpBody)
+    pub each_once : IsPermutation told (joined ++ (dropped ++ packet_alone stray))
+
 -- Each packet that was kept was handed on, waits, or was dropped, and none twice; none is dropped
--- where no call drops one.
+-- where no call drops one, and where none drops all those dropped are strays.
 pub record IsEachAccounted (calls : List ReceiverCall) (s : Reception) (a : Account) : Type 0 where
   pub exact : IsPermutation (kept_packets calls) ((a.dropped ++ packet_alone s.stray)
       ++ ((a.handed ++ a.earlier) ++ s.waiting.buffer.held))
   pub none_dropped : list_any may_drop calls ≡ false → a.dropped ++ packet_alone s.stray ≡ []
+  pub strays : list_any drops_all calls ≡ false →
+      AreDroppedStrays (stray_packets calls) a.dropped s.stray
 
 -- packets, the last one first, each with a number ahead of the one before, by half of the circle at
 -- most (RFC 3550, 5.1)
@@ -143,8 +167,8 @@ abbrev pub IsDueBehind : Option ℕ → List (ℕ × RtpBody) → Type 0
 IsDueBehind due [] = Unit {0}
 IsDueBehind due (p ∷ before) = due ≡ Some (next_sequence_number p.0)
 
--- Packets are handed on in the order of their numbers, in as many streams as end; those that wait are
--- in order too, and ahead of the last.
+-- Packets are handed on in the order of their numbers, in as many streams as end; those that wait
+-- are in order too, and ahead of the last.
 pub record AreHandedInOrder (calls : List ReceiverCall) (s : Reception) (a : Account) : Type 0 where
   pub turn : AreInTurnBack a.handed
   pub before : AreStreams a.streams a.earlier
@@ -152,27 +176,27 @@ pub record AreHandedInOrder (calls : List ReceiverCall) (s : Reception) (a : Acc
   pub due : IsDueBehind s.waiting.buffer.due a.handed
   pub waits : IsHeldInOrder s.waiting.buffer.due s.waiting.buffer.held
 
--- What an assembler of access units is that took these packets, the last one first: it is new; a packet
--- was answered so, with its marker where that is believed; the access unit that is open ended by
--- itself, or with the stream; the number of the first packet was told; or all was dropped that had not
--- been given out.
-pub data IsAssemblerOf : List (ℕ × RtpBody) → Assembly → Type 0 where
-  new_assembler : (state : DepacketizerState) →
-      IsAssemblerOf [] (open_assembly state None none_open [])
+-- What an assembler of access units is that took these packets, the last one first: it is new,
+-- with this depacketizer; a packet was answered so, with its marker where that is believed; the
+-- access unit that is open ended before a packet that begins another, or with its stream; the
+-- number of the first packet was told; or all was dropped that had not been given out.
+pub data IsAssemblerOf (state : DepacketizerState) : List (ℕ × RtpBody) → Assembly → Type 0 where
+  new_assembler : IsAssemblerOf state [] (open_assembly state None none_open [])
   one_taken : (most limit : ℕ) (framing : Framing) (p : ℕ × RtpBody)
       (answer : Result Received PacketError) (before : List (ℕ × RtpBody)) (a : Assembly) →
-      IsAssemblerOf before a → IsAnswerTo most (begun_for a p) (believed framing p) answer →
-      (answer ≡ Err OutOfMemory → ⊥) → IsAssemblerOf (p ∷ before)
+      IsAssemblerOf state before a → IsAnswerTo most (begun_for a p) (believed framing p) answer →
+      (answer ≡ Err OutOfMemory → ⊥) → IsAssemblerOf state (p ∷ before)
       (marker_forgotten (assembly_after most limit (begun_for a p) (believed framing p) answer))
-  unit_ended : (before : List (ℕ × RtpBody)) (a : Assembly) → IsAssemblerOf before a →
-      IsAssemblerOf before (after_ending a)
-  stream_ended : (before : List (ℕ × RtpBody)) (a : Assembly) → IsAssemblerOf before a →
-      IsAssemblerOf before (after_finishing a)
+  unit_ended : (framing : Framing) (p : ℕ × RtpBody) (before : List (ℕ × RtpBody))
+      (a : Assembly) → IsAssemblerOf state before a → ends_before a framing p ≡ true →
+      IsAssemblerOf state before (if is_behind_missing a p.0 then after_finishing a else after_ending a)
+  stream_ended : (before : List (ℕ × RtpBody)) (a : Assembly) → IsAssemblerOf state before a →
+      IsAssemblerOf state before (after_finishing a)
   number_told : (number : ℕ) (before : List (ℕ × RtpBody)) (a : Assembly) →
-      IsAssemblerOf before a → IsAssemblerOf before (record a { expected = Some number })
+      IsAssemblerOf state before a → IsAssemblerOf state before (record a { expected = Some number })
   rest_dropped : (given rest : List AccessUnitValue) (before : List (ℕ × RtpBody))
-      (a : Assembly) → IsAssemblerOf before a → a.ended ≡ given ++ rest →
-      IsAssemblerOf before (open_assembly a.state None none_open given)
+      (a : Assembly) → IsAssemblerOf state before a → a.ended ≡ given ++ rest →
+      IsAssemblerOf state before (open_assembly a.state None none_open given)
 
 -- the access units that `next` gave out, by their timestamps and bytes, in that order
 abbrev pub texts_given : List ReceiverCall → List (ℕ × List ℕ)
@@ -188,29 +212,31 @@ texts_of (unit ∷ units) = if bears_nothing unit.bytes then texts_of units
     else (unit.timestamp, unit.bytes) ∷ texts_of units
 
 -- Of the access units that an assembler brings of the packets that were handed on to it, these are
--- gone, and those that ended since are left; and what `next` gave out are those gone that have bytes,
--- each once, in that order.
-pub record AreGivenAssembled (calls : List ReceiverCall) (s : Reception) (a : Account) : Type 0 where
+-- gone, and those that ended since are left; and what `next` gave out are those gone that have
+-- bytes, each once, in that order.
+pub record AreGivenAssembled (state : DepacketizerState) (calls : List ReceiverCall) (s : Reception)
+    (a : Account) : Type 0 where
   pub gone : List AccessUnitValue
-  pub made : IsAssemblerOf (a.handed ++ a.earlier)
+  pub made : IsAssemblerOf state (a.handed ++ a.earlier)
       (record s.assembler { ended = gone ++ s.assembler.ended })
   pub texts : texts_given calls ≡ texts_of gone
 
--- The counts are exact: of packets that came twice, or waited alone, of streams that began anew, and of
--- access units that were given out; and each packet that was handed on is counted once, as one that was
--- taken, skipped or refused, that bears no unit, or that is late, with those that were told late.
+-- The counts are exact: of packets told late, that came twice or waited alone, of streams that
+-- began anew, and of access units given out; and each packet that was handed on is counted once,
+-- as one that was taken, skipped or refused, or that bears no unit: none is late then.
 pub record AreCountsExact (calls : List ReceiverCall) (c : Counts) (a : Account) : Type 0 where
+  pub late : c.late ≡ call_count tells_late calls
   pub twice : c.twice ≡ call_count tells_twice calls
   pub stray : c.stray ≡ call_count tells_stray calls
   pub anew : c.anew ≡ call_count tells_anew calls
   pub units : c.units ≡ length (texts_given calls)
-  pub handed : c.taken + c.skipped + c.refused + c.no_unit + c.late
-      ≡ length (a.handed ++ a.earlier) + call_count tells_late calls
+  pub handed : c.taken + c.skipped + c.refused + c.no_unit ≡ length (a.handed ++ a.earlier)
 
 -- all of this; the counts where fewer calls were made than they go to
-pub record IsAccounted (calls : List ReceiverCall) (s : Reception) : Type 0 where
+pub record IsAccounted (state : DepacketizerState) (calls : List ReceiverCall) (s : Reception) : Type
+    0 where
   pub account : Account
   pub each : IsEachAccounted calls s account
   pub order : AreHandedInOrder calls s account
-  pub given : AreGivenAssembled calls s account
+  pub given : AreGivenAssembled state calls s account
   pub counts : length calls < 2 ^ 64 → AreCountsExact calls s.counts account

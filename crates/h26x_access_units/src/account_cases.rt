@@ -8,12 +8,12 @@ ghost use Rattle.h26x_access_units.specs.declared.config.AccessUnitConfig.{Acces
 ghost use Rattle.h26x_assembler.specs.AccessUnit.{empty_unit, none_open, open_assembly, after_unit_skip};
 ghost use Rattle.h26x_access_units.specs.ReceivedAccessUnit.{ReceivedAccessUnitValue};
 ghost use Rattle.h26x_access_units.specs.Reception.{marker_forgotten, fresh_reception, after_reception, ended_reception, restarted};
-ghost use Rattle.h26x_access_units.specs.Account.{PushCall, BackCall, NextCall, FinishCall, RestartCall, BeginCall, AreReceiverCalls, IsAssemblerOf, texts_given, texts_of, kept_packets, may_drop, ends_stream, tells_twice, tells_stray, tells_anew, tells_late, call_count, packet_alone, AreInTurnBack, AreStreams, IsDueBehind, IsAccounted};
+ghost use Rattle.h26x_access_units.specs.Account.{PushCall, BackCall, NextCall, FinishCall, RestartCall, BeginCall, AreReceiverCalls, IsAssemblerOf, texts_given, texts_of, kept_packets, stray_packets, may_drop, drops_all, AreDroppedStrays, ends_stream, tells_twice, tells_stray, tells_anew, tells_late, call_count, packet_alone, AreInTurnBack, AreStreams, IsDueBehind, IsAccounted};
 
 use crate::pushed::{NotPushedReason, Pushed};
 
-/// Of packets that came one after the other those told `Late`, `Twice` or `Full`, or that came back,
-/// aren't kept.
+/// Of packets that came one after the other those told `Late`, `Twice` or `Full` aren't kept, nor
+/// those that came back.
 pub fn packets_that_are_kept()
     ensures each { let b = rtp_body 0 false [] in kept_packets (PushCall 0 (7, b) Pushed.Held
         ∷ PushCall 0 (6, b) (Pushed.Late 1) ∷ PushCall 0 (5, b) Pushed.Twice
@@ -24,6 +24,10 @@ pub fn packets_that_are_kept()
     ensures none { kept_packets [] ≡ [] }
     ensures alone { packet_alone (Some (7, rtp_body 0 false [])) ≡ (7, rtp_body 0 false []) ∷ [] }
     ensures none_alone { packet_alone None ≡ [] }
+    ensures strays { let b = rtp_body 0 false [] in
+        stray_packets (PushCall 0 (7, b) Pushed.Held ∷ PushCall 0 (3, b) Pushed.Stray
+        ∷ PushCall 0 (2, b) Pushed.Jumped ∷ PushCall 0 (1, b) Pushed.Stray ∷ FinishCall ∷ [])
+        ≡ (3, b) ∷ (1, b) ∷ [] }
 {}
 
 /// Packets may be dropped where one is told `Stray`, and by `restart`, and else none is.
@@ -34,7 +38,22 @@ pub fn packets_that_may_be_dropped()
         ∷ PushCall 0 (9, b) Pushed.Anew ∷ BeginCall 9 ∷ FinishCall ∷ NextCall 0 None ∷ [])
         ≡ false }
     ensures restart { may_drop RestartCall ≡ true }
+    ensures none_drops_all { let b = rtp_body 0 false [] in
+        list_any drops_all (PushCall 0 (7, b) Pushed.Stray ∷ PushCall 0 (8, b) Pushed.Jumped
+        ∷ PushCall 0 (9, b) Pushed.Held ∷ FinishCall ∷ NextCall 0 None ∷ []) ≡ false }
+    ensures anew_drops_all { drops_all (PushCall 0 (7, rtp_body 0 false []) Pushed.Anew) ≡ true }
+    ensures restart_drops_all { drops_all RestartCall ≡ true }
     ensures alone { may_drop (PushCall 0 (7, rtp_body 0 false []) Pushed.Stray) ≡ true }
+{}
+
+/// Of two strays the second waits alone, and the first joined the others, or was dropped; one that
+/// wasn't told so is none.
+pub fn strays_that_are_dropped()
+    ensures joined { let b = rtp_body 0 false [] in
+        AreDroppedStrays ((9, b) ∷ (3, b) ∷ []) [] (Some (9, b)) }
+    ensures left { let b = rtp_body 0 false [] in
+        AreDroppedStrays ((9, b) ∷ (3, b) ∷ []) ((3, b) ∷ []) (Some (9, b)) }
+    ensures untold { let b = rtp_body 0 false [] in AreDroppedStrays [] ((3, b) ∷ []) None → ⊥ }
 {}
 
 /// A stream ends where it begins anew, by `finish` and by `restart`, and by no other call.
@@ -92,14 +111,14 @@ pub fn texts_that_are_given()
 /// A number that bears nothing is skipped by a new assembler, and another one is told to it.
 pub fn assemblers_of_packets()
     ensures skipped { (state : DepacketizerState) →
-        IsAssemblerOf ((7, rtp_body 0 false []) ∷ [])
+        IsAssemblerOf state ((7, rtp_body 0 false []) ∷ [])
         (marker_forgotten (after_unit_skip (open_assembly state None none_open []) 7)) }
-    ensures told { (state : DepacketizerState) → IsAssemblerOf []
+    ensures told { (state : DepacketizerState) → IsAssemblerOf state []
         (record (open_assembly state None none_open []) { expected = Some 7 }) }
 {}
 
-/// A packet is pushed to a receiver that is new, it is ended and begun again, and settings are given:
-/// calls that can be made, and packets accounted for.
+/// A packet is pushed to a new receiver, or that is ended and begun again: calls that can be made, and
+/// packets accounted for.
 pub fn calls_of_a_receiver()
     ensures pushed { (config : AccessUnitConfig) (state : DepacketizerState) →
         let s = fresh_reception (record config { window = 64; held_limit = 9 }) state in
@@ -111,5 +130,5 @@ pub fn calls_of_a_receiver()
     ensures accounted { (config : AccessUnitConfig) (state : DepacketizerState) →
         let s = fresh_reception (record config { window = 64; held_limit = 9 }) state in
         let p : ℕ × RtpBody = (7, rtp_body 0 false []) in
-        IsAccounted (PushCall 0 p Pushed.Held ∷ []) (after_reception 0 s p Pushed.Held) }
+        IsAccounted state (PushCall 0 p Pushed.Held ∷ []) (after_reception 0 s p Pushed.Held) }
 {}

@@ -104,12 +104,13 @@ pub fn frame_numbers_tell_of_lost_pictures()
 
 /// Whatever packets come, and whatever calls are made: each packet that was kept, that is not told
 /// `Late`, `Twice` or `Full`, was handed to the assembler of access units, waits, or was dropped, and
-/// none twice; none is dropped where none was told `Stray`, and `restart` wasn't called. Those of each
-/// stream are handed on in the order of their numbers. What is given out are the access units with
-/// bytes that the assembler brings of the packets that were handed on to it, each once, in its order.
-/// Where fewer than 2^64 calls were made the counts of both, and of what was told, are exact.
+/// none twice; where the stream doesn't begin anew, and `restart` isn't called, only those told
+/// `Stray` are dropped. Those of each stream are handed on in the order of their numbers. What is
+/// given out are the access units with bytes that the assembler brings of the packets that were handed
+/// on to it, each once, in its order. Where fewer than 2^64 calls were made the counts of both and of
+/// what was told are exact, and none that was handed on is late.
 pub fn packets_are_accounted_for()
-    ensures { (config : AccessUnitConfig) (state : DepacketizerState) (calls : List ReceiverCall)
-        (s : Reception) → AreReceiverCalls (fresh_reception config state) calls s →
-        IsAccounted calls s }
+    ensures { (config : AccessUnitConfig) (state : DepacketizerState)
+        (calls : List ReceiverCall) (s : Reception) →
+        AreReceiverCalls (fresh_reception config state) calls s → IsAccounted state calls s }
 {}

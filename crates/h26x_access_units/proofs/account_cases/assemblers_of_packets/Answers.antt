@@ -7,7 +7,7 @@ use Rattle.h26x_access_units.specs.Account.{new_assembler, one_taken, number_tol
 use Rattle.h26x_access_units.proofs.account_cases.assemblers_of_packets.Goals as goal
 
 pub returns-clause-skipped : goal.returns-clause-skipped
-returns-clause-skipped c state = one_taken 0 0 fresh_framing (7, rtp_body 0 false []) (Ok InOrder) [] (open_assembly state None none_open []) (new_assembler state) refl (λ bad. cc)
+returns-clause-skipped c state = one_taken 0 0 fresh_framing (7, rtp_body 0 false []) (Ok InOrder) [] (open_assembly state None none_open []) new_assembler refl (λ bad. cc)
 
 pub returns-clause-told : goal.returns-clause-told
-returns-clause-told c state = number_told 7 [] (open_assembly state None none_open []) (new_assembler state)
+returns-clause-told c state = number_told 7 [] (open_assembly state None none_open []) new_assembler

@@ -7,7 +7,7 @@ use Rattle.h26x_access_units.proofs.AccountLemmas.{calls_accounted}
 use Rattle.h26x_access_units.proofs.account_cases.calls_of_a_receiver.Goals as goal
 
 pub returns-clause-pushed : goal.returns-clause-pushed
-returns-clause-pushed c config state = one_call no_call (omega arith, refl, refl)
+returns-clause-pushed c config state = one_call no_call (omega arith, omega arith, refl, refl)
 
 pub returns-clause-restarted : goal.returns-clause-restarted
 returns-clause-restarted c config state = one_call (one_call no_call refl) refl
@@ -17,4 +17,4 @@ returns-clause-accounted c config state =
     let settings = record config { window = 64; held_limit = 9 } in
     let s = fresh_reception settings state in
     let p : ℕ × RtpBody = (7, rtp_body 0 false []) in
-    calls_accounted settings state (PushCall 0 p pushes.Held ∷ []) (after_reception 0 s p pushes.Held) (one_call no_call (omega arith, refl, refl))
+    calls_accounted state settings (PushCall 0 p pushes.Held ∷ []) (after_reception 0 s p pushes.Held) (one_call no_call (omega arith, omega arith, refl, refl))
