@@ -26,8 +26,8 @@
 //! ```
 
 use crate::proved::h26x_access_units::AccessUnitReceiver as Units;
-use crate::proved::h26x_access_units::Receives as _;
 use crate::proved::h26x_access_units::Nacks;
+use crate::proved::h26x_access_units::Receives as _;
 use crate::proved::h26x_codec::AnyPayloadDepacketizer;
 use crate::{Codec, HeldPacket, PacketError, RtpPacket};
 use alloc::vec::Vec;

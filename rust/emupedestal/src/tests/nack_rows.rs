@@ -23,15 +23,24 @@ fn push(it: &mut AccessUnitReceiver, sequence: u16) {
 
 /// What is asked for in a step, as the text has it.
 fn asked(it: &mut AccessUnitReceiver, step: &str) -> String {
-    let words: Vec<u32> = step.split('/').map(|it| it.parse().expect("a number")).collect();
+    let words: Vec<u32> = step
+        .split('/')
+        .map(|it| it.parse().expect("a number"))
+        .collect();
     let times = NackTimes {
         first: words[1],
         again: words[2],
         most: words[3] as u8,
     };
-    let numbers = it.nacks(words[0], times, words[4] as usize).expect("memory");
+    let numbers = it
+        .nacks(words[0], times, words[4] as usize)
+        .expect("memory");
     let numbers: Vec<String> = numbers.iter().map(u16::to_string).collect();
-    if numbers.is_empty() { "-".into() } else { numbers.join(",") }
+    if numbers.is_empty() {
+        "-".into()
+    } else {
+        numbers.join(",")
+    }
 }
 
 #[test]
