@@ -1,6 +1,7 @@
 /* The two ends of a stream. */
 #include "ends.h"
 #include "stream.h"
+#include <stdio.h>
 #include <stdlib.h>
 
 enum { PAYLOAD_TYPE = 96, SOURCE = 0x68323658, TICKS_A_FRAME = 90000 / 25 };
@@ -61,12 +62,15 @@ bool make_packets(struct server *s, size_t limit, const uint8_t *frame, size_t l
 {
     size_t count, size;
     uint32_t code;
-    while ((code = h26x_packetize_into(&s->packetizer, limit, frame, len, RTP_HEADER, s->at,
-                                       s->room, s->ends, s->ends_room, &count, &size))
+    h26x_refusal why;
+    while ((code = h26x_packetize_units_into(&s->packetizer, limit, frame, len, RTP_HEADER, s->at,
+                                             s->room, s->ends, s->ends_room, &count, &size, &why))
            == H26X_NO_ROOM)
         grow(s, count, size);
-    if (code != H26X_OK)
-        return fail("a frame is refused");
+    if (code != H26X_OK) {
+        fprintf(stderr, "unit %zu of %zu bytes: ", why.first, why.second);
+        return fail(h26x_strerror(code));
+    }
     *made = (struct packets){s->at, s->ends, count};
     write_headers(s, made);
     return true;

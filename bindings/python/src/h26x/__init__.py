@@ -7,9 +7,9 @@ the caller's. FormatParameters are those of SDP, read and answered.
 
 >>> frame = bytes.fromhex("00000001 6742c01f 00000001 68ce 00000001 658884")  # SPS, PPS, IDR slice
 >>> with Packetizer(Codec.H264) as packetizer:
-...     packets = packetizer.packetize(1200, frame)
->>> [packet.hex() for packet in packets]  # the sets in a STAP-A, then the slice
-['7800046742c01f000268ce', '658884']
+...     packets = packetizer.packetize_units(1200, frame)
+>>> [packet.hex() for packet in packets]  # the sets and the slice in a STAP-A
+['7800046742c01f000268ce0003658884']
 >>> with Receiver(Codec.H264, run_limit=4_000_000) as receiver:
 ...     back = b"".join(receiver.receive(n, packet).data for n, packet in enumerate(packets))
 >>> back == frame
