@@ -85,16 +85,3 @@ bool next_access_unit(uint32_t codec, const uint8_t *stream, size_t len, size_t 
     } while (h26x_next_unit(codec, stream, len, *end, &first, &behind));
     return true;
 }
-
-bool is_sent(uint32_t codec, const uint8_t *unit, size_t len)
-{
-    const unsigned type = unit_type(codec, unit, len);
-    switch (codec) {
-    case H26X_H264:
-        return type != 64 && type != 9;
-    case H26X_H265:
-        return type != 64 && type != 35;
-    default:
-        return type != 64 && type != 20 && !is_in(type, 28, 29);
-    }
-}

@@ -16,8 +16,4 @@ bool next_access_unit(uint32_t codec, const uint8_t *stream, size_t len, size_t 
  * which is none, where the header isn't whole. */
 unsigned unit_type(uint32_t codec, const uint8_t *unit, size_t len);
 
-/* Whether a packetizer sends a unit: not an access unit delimiter, nor a unit without a whole
- * header, nor of H.266 one with a packet's type. */
-bool is_sent(uint32_t codec, const uint8_t *unit, size_t len);
-
 #endif

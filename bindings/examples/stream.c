@@ -69,8 +69,6 @@ bool is_text_of(const struct stream *s, const uint8_t *text, size_t len, size_t 
     *units = 0;
     while (h26x_next_unit(s->codec, s->at, s->len, end, &begin, &end)) {
         const size_t unit_len = end - begin;
-        if (!is_sent(s->codec, s->at + begin, unit_len))
-            continue;
         if (len - at < 4 + unit_len || memcmp(text + at, "\0\0\0\1", 4) != 0
             || memcmp(text + at + 4, s->at + begin, unit_len) != 0)
             return fail("a unit came back as another");

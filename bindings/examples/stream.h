@@ -25,7 +25,7 @@ void *grown(void *at, size_t size);
 /* Reads a stream by its arguments, h264|h265|h266 IN [LIMIT]. LIMIT is 1200 bytes unless said. */
 bool read_stream(int count, char **arguments, struct stream *s);
 
-/* Whether a text is the units of the stream that are sent, each behind 00 00 00 01. *units is how
+/* Whether a text is the units of the stream, each behind 00 00 00 01. *units is how
  * many there are. */
 bool is_text_of(const struct stream *s, const uint8_t *text, size_t len, size_t *units);
 
