@@ -78,6 +78,8 @@ void check_nack_rows(struct tally *t)
     char row[LONGEST];
     size_t rows = 0;
     expect(t, file != NULL);
+    if (file == NULL)
+        return;
     while (fgets(row, sizeof row, file) != NULL) {
         row[strcspn(row, "\n")] = 0;
         if (row[0] == '#')
@@ -85,6 +87,6 @@ void check_nack_rows(struct tally *t)
         walk(t, row);
         rows++;
     }
-    expect(t, rows > 15);
+    expect(t, rows == 16);
     fclose(file);
 }

@@ -179,16 +179,18 @@ static void refuse_every_unit(const struct codec *c)
     const uint8_t *sets = (const uint8_t *)c->sets;
     expect(h26x_packetizer_new(c->number, false, &p) == H26X_OK);
     memset(to, 0xee, sizeof to);
+#define none_told() (why.first == 0 && why.second == 0 && (why.first = why.second = 7))
     refuse_each(h26x_units_size(&p, LIMIT, sets, c->sets_len, 2, &count, &size, &why),
-                count == 0 && size == 0 && why.first == 0 && why.second == 0);
-    expect(count == 1);
+                count == 0 && size == 0 && none_told());
+    expect(count == 1 && why.first == 7);
     const size_t told = size;
     refuse_each(h26x_packetize_units(&p, LIMIT, sets, c->sets_len, &count, &why),
-                count == 0 && h26x_packet_count(&p) == 0);
-    expect(count == 1);
-    refuse_each(h26x_packetize_units(&p, LIMIT, sets, c->sets_len, &count, &why), count == 1);
+                count == 0 && h26x_packet_count(&p) == 0 && none_told());
+    expect(count == 1 && why.first == 7);
+    refuse_each(h26x_packetize_units(&p, LIMIT, sets, c->sets_len, &count, &why), count == 1 && none_told());
     refuse_each(h26x_packetize_units_into(&p, LIMIT, sets, c->sets_len, 2, to, sizeof to, ends, 4, &count, &size, &why),
-                count == 0 && size == 0 && to[2] == 0xee && ends[0] == 0);
+                count == 0 && size == 0 && to[2] == 0xee && ends[0] == 0 && none_told());
+#undef none_told
     expect(count == 1 && size == told && ends[0] == size && to[0] == 0xee && to[size] == 0xee);
     expect(memcmp(to + 2, c->begins[0], c->fragment_header - 1) == 0);
 

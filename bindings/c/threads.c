@@ -167,6 +167,7 @@ static void ask_shared_ends(const struct shared *s, const struct codec *c)
     expect(h26x_packet_copy(&s->packets, 1, packet, sizeof packet) == sizeof packet);
     expect(h26x_packets_copy(&s->packets, 1, packet, sizeof packet, ends, 2) == 1 && ends[0] == sizeof packet);
     expect(h26x_packets_size(&s->packets, 100, packet, sizeof packet, 12, &count, &size) == H26X_OK);
+    expect(h26x_units_size(&s->packets, 100, packet, 0, 12, &count, &size, NULL) == H26X_OK && count == 0);
     expect(h26x_packetizer_clone(&s->packets, &p) == H26X_OK);
     expect(h26x_depacketizer_clone(&s->open, &d) == H26X_OK);
     expect(h26x_depacketizer_same(&s->open, &d) && h26x_depacketizer_same(&d, &s->open));

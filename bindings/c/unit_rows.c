@@ -161,6 +161,8 @@ void check_unit_rows(struct tally *t)
     char line[LONGEST];
     size_t rows = 0;
     expect(t, file != NULL);
+    if (file == NULL)
+        return;
     while (fgets(line, LONGEST, file) != NULL) {
         if (*line == '#')
             continue;
@@ -169,5 +171,5 @@ void check_unit_rows(struct tally *t)
         rows++;
     }
     fclose(file);
-    expect(t, rows > 30);
+    expect(t, rows == 44);
 }

@@ -396,11 +396,11 @@ type NackTimes struct {
 	Most uint8
 }
 
-// Nacks is the numbers of Missing that are to be asked for at this tick, in order, up to most of them: each is asked for as
+// Nacks is the numbers of Missing that are to be asked for at this tick, in order, up to room of them: each is asked for as
 // times says, and counts as asked for. Others are due at the next call. A number counts as missing since the first of the
 // calls in a row that found it so: call it as often as First and Again ask for. Its errors are ErrOutOfMemory and ErrClosed,
 // and nothing counts as asked for then.
-func (r *AccessUnitReceiver) Nacks(now uint32, times NackTimes, most int) ([]uint16, error) {
+func (r *AccessUnitReceiver) Nacks(now uint32, times NackTimes, room int) ([]uint16, error) {
 	r.mu.Lock()
 	defer r.mu.Unlock()
 	if r.call == nil {
@@ -410,13 +410,13 @@ func (r *AccessUnitReceiver) Nacks(now uint32, times NackTimes, most int) ([]uin
 	if err := refusedBy(C.h26x_access_units_missing(&r.call.handle, nil, 0, count)); err != nil {
 		return nil, err
 	}
-	if most > int(*count) {
-		most = int(*count)
+	if room > int(*count) {
+		room = int(*count)
 	}
 	var numbers []uint16
 	var first *C.uint16_t
-	if most > 0 {
-		numbers = make([]uint16, most)
+	if room > 0 {
+		numbers = make([]uint16, room)
 		first = (*C.uint16_t)(unsafe.Pointer(&numbers[0]))
 	}
 	when := &C.h26x_nack_times{first: C.uint32_t(times.First), again: C.uint32_t(times.Again), most: C.uint8_t(times.Most)}

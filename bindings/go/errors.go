@@ -59,7 +59,7 @@ const (
 	ErrUnitWithoutHeader Code = C.H26X_UNIT_WITHOUT_HEADER
 	// ErrUnitForbidden: its forbidden bit is set.
 	ErrUnitForbidden Code = C.H26X_UNIT_FORBIDDEN
-	// ErrUnitOfPacketType: its type is one of packets.
+	// ErrUnitOfPacketType: its type is one of packets or, of H.264, none of a unit.
 	ErrUnitOfPacketType Code = C.H26X_UNIT_OF_PACKET_TYPE
 	// ErrUnitTooLong: it is longer than a packet, and no fragment may go or has room for data.
 	ErrUnitTooLong Code = C.H26X_UNIT_TOO_LONG

@@ -28,7 +28,7 @@ func TestNackRows(t *testing.T) {
 			}
 		}
 	}
-	if rows <= 15 {
+	if rows != 16 {
 		t.Errorf("%d rows", rows)
 	}
 }

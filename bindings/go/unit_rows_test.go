@@ -35,7 +35,7 @@ func TestUnitRows(t *testing.T) {
 		sendsRow(t, row, columns)
 		rows++
 	}
-	if rows <= 30 {
+	if rows != 44 {
 		t.Errorf("%d rows", rows)
 	}
 }

@@ -268,19 +268,20 @@ H26X_API uint32_t h26x_packetizer_set_packing(h26x_packetizer *p, uint32_t packi
  * in fragments, and no sender that brings these units needs fewer packets than by H26X_TOGETHER. So several sets of a
  * kind, sets that come alone and delimiters all arrive. `mtu` and the largest packet size count as in h26x_packetize,
  * and with decoding order numbers each unit takes one. Sets that wait for h26x_packetize stay: one stream uses the
- * one call or the other. An aggregate has the header of its units, h26x_packetizer_set_lowest_header or not.
+ * one call or the other. An aggregate has the header of its units, whatever h26x_packetizer_set_lowest_header set.
  *
  * Where a unit can't go nothing is sent, and *why names the first, by its place and its length: H26X_UNIT_WITHOUT_HEADER,
- * H26X_UNIT_FORBIDDEN, H26X_UNIT_OF_PACKET_TYPE or H26X_UNIT_TOO_LONG. Else *count and the answers are those of
- * h26x_packetize. H26X_OUT_OF_MEMORY writes 0 to why->first and why->second, and H26X_OK leaves *why.
+ * H26X_UNIT_FORBIDDEN, H26X_UNIT_OF_PACKET_TYPE or H26X_UNIT_TOO_LONG. The packets of the call before stay then, and
+ * *count is how many these are. Else *count and the answers are those of h26x_packetize. H26X_OUT_OF_MEMORY writes 0 to
+ * why->first and why->second; H26X_OK and H26X_WRONG_END leave *why.
  *
  * A unit of H.265 or H.266 that is a bare header of two bytes goes in an aggregate where it can; alone h26x_depacketize
- * refuses it. Each call takes memory for the list of its units while it runs, but none for their bytes. */
+ * refuses it. Each call takes memory for the list of its units while it runs. */
 H26X_API uint32_t h26x_packetize_units(h26x_packetizer *p, size_t mtu, const uint8_t *access_unit,
                                        size_t access_unit_len, size_t *count, h26x_refusal *why) H26X_MUST_USE;
 
 /** The same as h26x_packetize_into of one access unit, as h26x_packetize_units sends it. Units are refused as there:
- * then 0 is written to *count and *size. H26X_OK and H26X_NO_ROOM leave *why. */
+ * then 0 is written to *count and *size. H26X_OK and H26X_NO_ROOM leave *why. It takes no memory for bytes of units. */
 H26X_API uint32_t h26x_packetize_units_into(h26x_packetizer *p, size_t mtu, const uint8_t *access_unit,
                                             size_t access_unit_len, size_t headroom, uint8_t *to, size_t room,
                                             size_t *ends, size_t ends_room, size_t *count, size_t *size,

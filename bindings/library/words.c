@@ -53,7 +53,7 @@ const char *h26x_strerror(uint32_t code)
     case H26X_UNIT_FORBIDDEN:
         return "the unit has its forbidden bit set";
     case H26X_UNIT_OF_PACKET_TYPE:
-        return "the unit has a type of packets";
+        return "the unit has a type of packets, or that no unit has";
     case H26X_UNIT_TOO_LONG:
         return "the unit is too long for the packets";
     case H26X_SDP_OPEN_BRACE:

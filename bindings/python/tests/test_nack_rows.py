@@ -26,7 +26,7 @@ def step_of(receiver: AccessUnitReceiver, step: str) -> None:
 
 
 def test_there_are_rows() -> None:
-    assert len(ROWS) > 15
+    assert len(ROWS) == 16
 
 
 @pytest.mark.parametrize("row", ROWS)
@@ -41,7 +41,12 @@ def test_more_than_there_is_room_for() -> None:
         for number in (1, 400):
             receiver.push(0, RtpPacket(number, 9 * number, True, SLICE))
             list(receiver.units(0))
-        assert receiver.nacks(0, NackTimes(0, 60, 2)) == list(range(2, 400))
+        assert receiver.nacks(0, NackTimes(0, 60, 2), 300) == list(range(2, 302))
+        assert receiver.nacks(0, NackTimes(0, 60, 2)) == list(range(302, 400))
+        assert receiver.nacks(60, NackTimes(0, 60, 2), 65536) == list(range(2, 400))
+        for now, room in ((-1, 8), (2**32, 8), (0, -1), (0, 65537)):
+            with pytest.raises(ValueError):
+                receiver.nacks(now, NackTimes(0, 60, 2), room)
         for wrong in ((-1, 0, 0), (0, 2**32, 0), (0, 0, 256)):
             with pytest.raises(ValueError):
                 receiver.nacks(0, NackTimes(*wrong))

@@ -40,7 +40,7 @@ def test_units(row: str) -> None:
 
 def test_rows() -> None:
     """The text has them."""
-    assert len(ROWS) > 30
+    assert len(ROWS) == 44
 
 
 def test_packings() -> None:

@@ -180,7 +180,7 @@ impl AccessUnitReceiver {
         self.inner.missing()
     }
 
-    /// The numbers of [`missing`](Self::missing) that are to be asked for at this tick, in order, up to `most` of
+    /// The numbers of [`missing`](Self::missing) that are to be asked for at this tick, in order, up to `room` of
     /// them: each is asked for as `times` says, and counts as asked for. Others are due at the next call. A number
     /// counts as missing since the first of the calls in a row that found it so: call it as often as `first` and
     /// `again` ask for. The error is `OutOfMemory` alone: nothing counts as asked for then.
@@ -188,10 +188,10 @@ impl AccessUnitReceiver {
         &mut self,
         now: u32,
         times: NackTimes,
-        most: usize,
+        room: usize,
     ) -> Result<Vec<u16>, PacketError> {
         let missing = self.inner.missing()?;
-        self.nacks.due(&missing, times, now, most)
+        self.nacks.due(&missing, times, now, room)
     }
 
     /// When to call [`next`](Self::next) again at the latest, if packets wait and there is a `max_wait`, or of a

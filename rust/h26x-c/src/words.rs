@@ -55,7 +55,7 @@ pub extern "C" fn h26x_strerror(code: u32) -> *const c_char {
         14 => c"no access unit has ended",
         15 => c"the unit has no whole header",
         16 => c"the unit has its forbidden bit set",
-        17 => c"the unit has a type of packets",
+        17 => c"the unit has a type of packets, or that no unit has",
         18 => c"the unit is too long for the packets",
         20 => c"a brace is left open",
         21 => c"the value is no decimal number",

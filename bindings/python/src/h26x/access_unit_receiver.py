@@ -328,12 +328,13 @@ class AccessUnitReceiver(Owner):
             check(call(self._live(), room.address, count.value, byref(count)))
         return room.view[: count.value * _EACH_NUMBER].cast("H").tolist()
 
-    def nacks(self, now: int, times: NackTimes, most: int = 512) -> List[int]:
-        """The numbers of `missing` that are to be asked for at this tick, in order, up to `most` of them: each is
+    def nacks(self, now: int, times: NackTimes, room: int = 512) -> List[int]:
+        """The numbers of `missing` that are to be asked for at this tick, in order, up to `room` of them: each is
         asked for as `times` says, and counts as asked for. Others are due at the next call. A number counts as
         missing since the first of the calls in a row that found it so: call it as often as `first` and `again`
         ask for. Raises OutOfMemory: nothing counts as asked for then."""
-        count, room, call = c_size_t(), Room(), library.h26x_access_units_nacks
+        count, to, call = c_size_t(), Room(), library.h26x_access_units_nacks
+        tick, wide = _tick("now", now), number("room", room, 65536)
         wanted = NackTimesGiven(
             number("first", times.first, _TICKS),
             number("again", times.again, _TICKS),
@@ -341,10 +342,10 @@ class AccessUnitReceiver(Owner):
         )
         with self._lock:
             check(library.h26x_access_units_missing(self._live(), None, 0, byref(count)))
-            wide = min(number("most", most, _TICKS), count.value)
-            room.grow(max(wide, 1) * _EACH_NUMBER)
-            check(call(self._live(), now, byref(wanted), room.address, wide, byref(count)))
-        return room.view[: count.value * _EACH_NUMBER].cast("H").tolist()
+            wide = min(wide, count.value)
+            to.grow(max(wide, 1) * _EACH_NUMBER)
+            check(call(self._live(), tick, byref(wanted), to.address, wide, byref(count)))
+        return to.view[: count.value * _EACH_NUMBER].cast("H").tolist()
 
     def begin_at(self, sequence: int) -> bool:
         """Says the number of the first packet of the stream, as a peer tells it (RTP-Info of RTSP, RFC 2326,

@@ -185,7 +185,7 @@ class UnitForbidden(UnitRefused):
 
 
 class UnitOfPacketType(UnitRefused):
-    """Its type is one of packets."""
+    """Its type is one of packets or, of H.264, none of a unit."""
 
     code = 17
 

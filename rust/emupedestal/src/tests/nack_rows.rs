@@ -46,7 +46,7 @@ fn asked(it: &mut AccessUnitReceiver, step: &str) -> String {
 #[test]
 fn rows() {
     let rows: Vec<&str> = TEXT.lines().filter(|it| !it.starts_with('#')).collect();
-    assert!(rows.len() > 15);
+    assert_eq!(rows.len(), 16);
     for row in rows {
         let config = AccessUnitConfig {
             window: 100,
