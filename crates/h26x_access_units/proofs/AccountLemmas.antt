@@ -1,9 +1,10 @@
 -- What became of the packets that were given to a receiver.
-use Rattle.std.proofs.Common.{◌≡◌, ◌∙◌, ap, sym, subst, refl, ℕ, ◌+◌, ◌≤◌, ◌<◌, Bool, true, false, cond, List, [], ◌∷◌, ◌++◌, length, Option, Some, None, append_assoc, arith, inl, inr, Result, Ok, Err}
+use Rattle.std.proofs.Common.{◌≡◌, ◌∙◌, ap, sym, subst, refl, ℕ, zero, suc, ◌+◌, ◌≤◌, ◌<◌, Bool, true, false, cond, List, [], ◌∷◌, ◌++◌, length, Option, Some, None, append_assoc, arith, inl, inr, Result, Ok, Err}
 use Rattle.std.specs.Prelude.{◌==◌, ◌||◌, ◌&&◌, nat_lt, slice_get, MatchBool, IsPermutation, ◌⊎◌, not, if◌then◌else◌, IfOk, is_some}
-use Rattle.std.specs.List.{list_any}
+use Rattle.std.specs.List.{list_any, Contains}
 use Rattle.std.proofs.lemmas.List.{append-nil, length-append}
-use Rattle.std.proofs.lemmas.List.Sorted.{IsPermutation-refl, IsPermutation-sym, IsPermutation-cons, IsPermutation-trans, IsPermutation-to_front, IsPermutation-append_left, IsPermutation-append_right, IsPermutation-append_comm, IsPermutation-middle, length_permutation}
+use Rattle.std.proofs.lemmas.List.Elements.{Contains-append_right}
+use Rattle.std.proofs.lemmas.List.Sorted.{IsPermutation-refl, IsPermutation-sym, IsPermutation-cons, IsPermutation-trans, IsPermutation-to_front, IsPermutation-append_left, IsPermutation-append_right, IsPermutation-append_comm, IsPermutation-middle, length_permutation, Contains-permutation}
 use Rattle.std.proofs.lemmas.Bool.Decides.{nat_tests}
 use Rattle.h26x_core.specs.Sequence.{next_sequence_number, distance_ahead, is_late, missing_count, distance_behind, is_expected}
 use Rattle.h26x_model.specs.Receive.DepacketizerState.{DepacketizerState, IsPacketOutcome}
@@ -21,7 +22,7 @@ use Rattle.h26x_access_units.specs.declared.way.Way.TheVariants as ways
 use Rattle.h26x_access_units.specs.Numbers.{bears_nothing, first_ended}
 use Rattle.h26x_access_units.specs.Pushed.{as_pushed}
 use Rattle.h26x_access_units.specs.JitterBuffer.{JitterState, fresh_jitter, may_tell_first, with_held_limit, is_pressed, is_full, jitter_answer, after_jitter, with_packet, with_two, has_room_for, due_packet, without_due, is_ahead, reach}
-use Rattle.h26x_access_units.specs.ReceivedAccessUnit.{ReceivedAccessUnitValue, whole_with}
+use Rattle.h26x_access_units.specs.ReceivedAccessUnit.{ReceivedAccessUnitValue, received_unit, whole_with}
 use Rattle.h26x_access_units.specs.Reception.{Reception, fresh_reception, begun_reception, restarted, is_behind_stray, is_near_stray, answer_on, way_of, reception_answer, pushed_to, anew_of, held_with, after_reception, is_taken_at_once, is_behind_missing, IsDueTaken, IsEndedBefore, ended_behind_missing, ended_by_content, IsPushed, NoneIsDueUnlessEnded, IsDrained, none, bare, more, behind, IsDrainedInPart, bare_passed, without_bare, without_bare_of, ended_if_anew, ended_if_over, ended_reception, after_finish, has_no_unit, without_given, without_given_of, with_settings, IsNext, begun_for, believed, framing_at, ends_with, after_no_unit, is_no_unit, assembly_after, marker_forgotten, unit_given, unit_given_of, has_bare, IsAnswerTo, is_one_taken, begins_still, counts_answered, believed_packet, after_due, expected_for, ended_before, ends_before, is_repeat, is_too_far}
 use Rattle.h26x_core.specs.declared.error.PacketError.{PacketError}
 use Rattle.h26x_receiver.specs.declared.received.Received.{Received}
@@ -36,8 +37,10 @@ use Rattle.h26x_access_units.specs.declared.pushed.NotPushedReason.TheVariants a
 use Rattle.h26x_model.specs.Receive.RunLimit.{run_len}
 use Rattle.h26x_access_units.proofs.ReceptionLemmas.{at_once, held_at_once, bare_stays}
 use Rattle.h26x_reorder.proofs.BeyondLemmas.{both_of, beyond_held, two_last}
-use Rattle.h26x_access_units.specs.Account.{ReceiverCall, PushCall, BackCall, NextCall, LackCall, FinishCall, RestartCall, SettingsCall, BeginCall, IsCall, AreReceiverCalls, no_call, one_call, kept_packets, may_drop, Account, no_account, packet_alone, AreInTurnBack, AreStreams, no_stream, one_stream, IsDueBehind, IsAccounted, IsAssemblerOf, new_assembler, one_taken, unit_ended, stream_ended, number_told, rest_dropped, texts_given, texts_of, tells_twice, tells_stray, tells_anew, tells_late, ends_stream, call_count, stray_packets, drops_all, AreDroppedStrays}
+use Rattle.h26x_access_units.specs.Account.{ReceiverCall, PushCall, BackCall, NextCall, LackCall, FinishCall, RestartCall, SettingsCall, BeginCall, IsCall, AreReceiverCalls, no_call, one_call, kept_packets, may_drop, Account, no_account, packet_alone, AreInTurnBack, AreStreams, no_stream, one_stream, IsDueBehind, IsAccounted, IsAssemblerOf, new_assembler, one_taken, unit_ended, stream_ended, number_told, rest_dropped, texts_given, texts_of, IsEachAccounted, AreHandedInOrder, tells_twice, tells_stray, tells_anew, tells_late, ends_stream, call_count, stray_packets, drops_all, AreDroppedStrays}
 use Rattle.h26x_access_units.proofs.WaitingLemmas.{held_is, first_went}
+use Rattle.h26x_access_units.specs.WholeSent.{told_numbers, IsOfWholePackets, IsToldWhole}
+use Rattle.h26x_access_units.proofs.WholeSentLemmas.{PartsIf, Parts, due_parts, content_parts, missing_parts, last_parts, restarted_parts, anew_parts, fresh_parts, told_parts, gone_parts, bare_parts, first_whole}
 
 abbrev Packet : Type 0
 Packet = ℕ × RtpBody
@@ -481,7 +484,7 @@ texts_more (unit ∷ units) more_units = elim (bears_nothing unit.bytes) as (λ 
     ]
 
 -- so of an assembler that began with this depacketizer
-module _ (state : DepacketizerState) where
+module _ (state : DepacketizerState) (all : Packets) (told : List ℕ) where
   -- what an assembler brings of these packets, of which these texts were given out
   record Made (texts : List (ℕ × List ℕ)) (packets : Packets) (a : Assembly) : Type 0 where
     gone : List AccessUnitValue
@@ -929,6 +932,32 @@ module _ (state : DepacketizerState) where
         late = it.late ∙ sym (rw late refl);
       }
 
+  -- the packets that were kept and the numbers told are among these
+  record AreAmong (kept : Packets) (calls : List ReceiverCall) : Type 0 where
+    packets : (p : Packet) → Contains kept p → Contains all p
+    numbers : (number : ℕ) → Contains (told_numbers calls) number → Contains told number
+
+  -- the first of those that wait was kept
+  first_kept : (kept x h w : Packets) (p : Packet) → IsPermutation kept (x ++ (h ++ (p ∷ w))) → Contains kept p
+  first_kept kept x h w p exact = Contains-permutation (x ++ (h ++ (p ∷ w))) kept p (IsPermutation-sym kept (x ++ (h ++ (p ∷ w))) exact) (Contains-append_right x (h ++ (p ∷ w)) p (Contains-append_right h (p ∷ w) p (zero, omega arith, refl)))
+
+  first_small : (due : Option ℕ) (p : Packet) (w : Packets) → IsHeldInOrder due (p ∷ w) → p.0 < 65536
+  first_small None p w order = absurd (let bad = order in cc)
+  first_small (Some d) p w order = order.1.0
+
+  -- one more was kept
+  fewer : (kept : Packets) (p : Packet) (calls : List ReceiverCall) → AreAmong (p ∷ kept) calls → AreAmong kept calls
+  fewer kept p calls it = record { packets = λ q (k, within, same). it.packets q (suc k, omega (arith, within), same); numbers = it.numbers }
+
+  no_unit_is : (units : List AccessUnitValue) → has_no_unit units ≡ true → units ≡ []
+  no_unit_is [] e = refl
+  no_unit_is (unit ∷ units) e = absurd (let bad = e in cc)
+
+  -- a number that is due stays so
+  due_quiet : (u : Option AccessUnitValue) (old new : Option ℕ) → ((expected : Option ℕ) → IsExpectedDue expected old → IsExpectedDue expected new) → (old ≡ None → u ≡ None) → new ≡ None → u ≡ None
+  due_quiet u None new expects quiet e = quiet refl
+  due_quiet u (Some d) new expects quiet e = absurd (let is = expects (Some d) refl in let bad = sym is ∙ e in cc)
+
   -- an account of what waits, and of the packet that waits alone
   record Whole (kept : Packets) (drops : Bool) (most : ℕ) (texts : List (ℕ × List ℕ)) (n : ℕ) (calls : List ReceiverCall) (s : Reception) : Type 0 where
     account : Account
@@ -937,6 +966,8 @@ module _ (state : DepacketizerState) where
     counted : Counted n calls texts (account.handed ++ account.earlier) s.counts
     expects : s.is_anew ≡ false → IsExpectedDue s.assembler.expected s.waiting.buffer.due
     strays : Strays calls account.dropped s.stray
+    parts : AreAmong kept calls → PartsIf state all told s.framing.has_slice (account.handed ++ account.earlier) s.assembler s.numbers s.is_anew
+    quiet : s.is_anew ≡ false → s.waiting.buffer.due ≡ None → s.assembler.unit ≡ None
 
   -- so by calls
   abbrev WholeOf : List ReceiverCall → Reception → Type 0
@@ -949,8 +980,8 @@ module _ (state : DepacketizerState) where
 
   -- each step of a receiver
   module _ (kept : Packets) (drops : Bool) (most : ℕ) (texts : List (ℕ × List ℕ)) (n : ℕ) (calls : List ReceiverCall) (bound : length kept + call_count tells_late calls ≤ n) (few_texts : length texts ≤ n) where
-    due_whole : (now : ℕ) (s t : Reception) → s.is_anew ≡ false → IsDueTaken now s t → Whole kept drops most texts n calls s → Whole kept drops most texts n calls t
-    due_whole now s t same_stream it whole =
+    due_whole : (now : ℕ) (s t : Reception) → s.is_anew ≡ false → s.assembler.ended ≡ [] → IsDueTaken now s t → Whole kept drops most texts n calls s → Whole kept drops most texts n calls t
+    due_whole now s t same_stream empty it whole =
         let j = s.waiting in
         let a = whole.account in
         let l = whole.ledger in
@@ -971,20 +1002,57 @@ module _ (state : DepacketizerState) where
               (is_text_given_up s.run_limit s.unit_limit (begun_for s.assembler it.packet) (believed_packet s it.packet)) it.answer timely on_time in
               due_counted n calls texts (a.handed ++ a.earlier) it.packet s.counts (after_due s it.packet it.answer).counts (omega (arith, few, bound)) one whole.counted;
           strays = whole.strays;
+          parts = λ among.
+              let held = subst (λ (x : Packets). IsPermutation kept ((a.dropped ++ packet_alone s.stray) ++ ((a.handed ++ a.earlier) ++ x))) went.held l.exact in
+              let rest = (without_first j.buffer).held in
+              subst (PartsIf state all told (after_due s it.packet it.answer).framing.has_slice (it.packet ∷ (a.handed ++ a.earlier)) (after_due s it.packet it.answer).assembler (after_due s it.packet it.answer).numbers) (sym same_stream)
+              (due_parts state all told (a.handed ++ a.earlier) s.assembler s.numbers s.framing it.packet s.run_limit s.unit_limit (first_small j.buffer.due it.packet rest (subst (IsHeldInOrder j.buffer.due) went.held l.waits)) timely
+              (among.packets it.packet (first_kept kept (a.dropped ++ packet_alone s.stray) (a.handed ++ a.earlier) rest it.packet held)) empty
+              (subst (PartsIf state all told s.framing.has_slice (a.handed ++ a.earlier) s.assembler s.numbers) same_stream (whole.parts among)) it.answer it.answered it.room (λ x is. subst IsOnTime is on_time));
+          quiet = λ e none_due. absurd (let bad = sym went.due ∙ none_due in cc);
           expects = λ e. subst (λ (x : Option ℕ). IsExpectedDue x (without_first j.buffer).due) (sym (after_expects s.run_limit s.unit_limit begun believed_one it.answer timely on_time)) went.due;
         })
 
-    ended_whole : (now : ℕ) (s t : Reception) → IsEndedBefore now s t → Whole kept drops most texts n calls s → Whole kept drops most texts n calls t
-    ended_whole now s t it whole = subst (Whole kept drops most texts n calls) (sym it.stands)
+    ended_whole : (now : ℕ) (s t : Reception) → s.is_anew ≡ false → s.assembler.ended ≡ [] → IsEndedBefore now s t → Whole kept drops most texts n calls s → Whole kept drops most texts n calls t
+    ended_whole now s t same_stream empty it whole =
+        let a = whole.account in
+        let l = whole.ledger in
+        let j = s.waiting in
+        let handed = a.handed ++ a.earlier in
+        let first = first_is_due (is_pressed now j) j.buffer.window j.buffer.due j.buffer.held it.packet it.due in
+        let went = first_went j.buffer it.packet first in
+        let is_kept = first_kept kept (a.dropped ++ packet_alone s.stray) handed (without_first j.buffer).held it.packet (subst (λ (x : Packets). IsPermutation kept ((a.dropped ++ packet_alone s.stray) ++ (handed ++ x))) went.held l.exact) in
+        let parts_now : AreAmong kept calls → Parts state all told s.framing.has_slice handed s.assembler s.numbers = λ among. subst (PartsIf state all told s.framing.has_slice handed s.assembler s.numbers) same_stream (whole.parts among) in
+        subst (Whole kept drops most texts n calls) (sym it.stands)
         (elim (is_behind_missing s.assembler it.packet.0) as (λ b. is_behind_missing s.assembler it.packet.0 ≡ b → Whole kept drops most texts n calls (cond b (ended_behind_missing s it.packet) (ended_by_content s))) [
-          | true ↦ λ e. record { account = whole.account; ledger = whole.ledger; made = before_made texts (whole.account.handed ++ whole.account.earlier) s.assembler whole.made s.framing it.packet true it.ends e; counted = same_counted n calls texts (whole.account.handed ++ whole.account.earlier) s.counts (missing_count s.assembler.expected it.packet.0) whole.counted; expects = λ e. tt; strays = whole.strays }
-          | false ↦ λ e. record { account = whole.account; ledger = whole.ledger; made = before_made texts (whole.account.handed ++ whole.account.earlier) s.assembler whole.made s.framing it.packet false it.ends e; counted = whole.counted; expects = whole.expects; strays = whole.strays }
+          | true ↦ λ e. record {
+            account = a;
+            ledger = l;
+            made = before_made texts handed s.assembler whole.made s.framing it.packet true it.ends e;
+            counted = same_counted n calls texts handed s.counts (missing_count s.assembler.expected it.packet.0) whole.counted;
+            expects = λ e. tt;
+            strays = whole.strays;
+            parts = λ among. subst (PartsIf state all told s.framing.has_slice handed (ended_behind_missing s it.packet).assembler (ended_behind_missing s it.packet).numbers) (sym same_stream)
+                (missing_parts state all told handed s.assembler s.numbers (missing_count s.assembler.expected it.packet.0) empty (parts_now among));
+            quiet = λ x y. refl;
+          }
+          | false ↦ λ e. record {
+            account = a;
+            ledger = l;
+            made = before_made texts handed s.assembler whole.made s.framing it.packet false it.ends e;
+            counted = whole.counted;
+            expects = whole.expects;
+            strays = whole.strays;
+            parts = λ among. subst (PartsIf state all told s.framing.has_slice handed (ended_by_content s).assembler (ended_by_content s).numbers) (sym same_stream)
+                (content_parts state all told handed s.assembler s.numbers s.framing it.packet it.ends e (among.packets it.packet is_kept) empty (parts_now among));
+            quiet = λ x y. refl;
+          }
         ] refl)
 
     bare_whole_of : (units : List AccessUnitValue) (s : Reception) → s.assembler.ended ≡ units → Whole kept drops most texts n calls s → Whole kept drops most texts n calls (without_bare_of s units)
     bare_whole_of [] s is whole = whole
     bare_whole_of (unit ∷ units) s is whole = elim (bears_nothing unit.bytes) as (λ b. bears_nothing unit.bytes ≡ b → Whole kept drops most texts n calls (cond b (without_bare_of (bare_passed s unit units) units) s)) [
-      | true ↦ λ e. bare_whole_of units (bare_passed s unit units) refl (record { account = whole.account; ledger = whole.ledger; made = bare_made texts (whole.account.handed ++ whole.account.earlier) s.assembler whole.made unit units is e; counted = whole.counted; expects = whole.expects; strays = whole.strays })
+      | true ↦ λ e. bare_whole_of units (bare_passed s unit units) refl (record { account = whole.account; ledger = whole.ledger; made = bare_made texts (whole.account.handed ++ whole.account.earlier) s.assembler whole.made unit units is e; counted = whole.counted; expects = whole.expects; strays = whole.strays; quiet = whole.quiet; parts = λ among. bare_parts state all told s.is_anew (whole.account.handed ++ whole.account.earlier) s.assembler s.numbers (first_ended s.numbers).missing unit units is (whole.parts among) })
       | false ↦ λ e. whole
     ] refl
 
@@ -1025,18 +1093,18 @@ module _ (state : DepacketizerState) where
     drained_whole : (now : ℕ) (s t : Reception) → IsDrained now s t → IsReady s → Whole kept drops most texts n calls s → Whole kept drops most texts n calls t
     drained_whole now s t none ready whole = whole
     drained_whole now s t (bare before) ready whole = bare_whole _ (drained_whole now s _ before ready whole)
-    drained_whole now s t (more before empty taken) ready whole = due_whole now _ t (ready_same _ empty (ready_drained now s _ before ready)) taken (drained_whole now s _ before ready whole)
-    drained_whole now s t (behind before empty ended) ready whole = ended_whole now _ t ended (drained_whole now s _ before ready whole)
+    drained_whole now s t (more before empty taken) ready whole = due_whole now _ t (ready_same _ empty (ready_drained now s _ before ready)) empty taken (drained_whole now s _ before ready whole)
+    drained_whole now s t (behind before empty ended) ready whole = ended_whole now _ t (ready_same _ empty (ready_drained now s _ before ready)) empty ended (drained_whole now s _ before ready whole)
 
     anew_whole : (s : Reception) → Whole kept drops most texts n calls s → Whole kept drops most texts n calls (ended_if_anew s)
     anew_whole s whole = elim (has_no_unit s.assembler.ended && s.is_anew) as (λ b. (has_no_unit s.assembler.ended && s.is_anew) ≡ b → Whole kept drops most texts n calls (ended_if_anew s)) [
-      | true ↦ λ e. rw e (record { account = whole.account; ledger = whole.ledger; made = finishing_made texts (whole.account.handed ++ whole.account.earlier) s.assembler whole.made; counted = whole.counted; expects = λ e. tt; strays = whole.strays })
+      | true ↦ λ e. rw e (record { account = whole.account; ledger = whole.ledger; made = finishing_made texts (whole.account.handed ++ whole.account.earlier) s.assembler whole.made; counted = whole.counted; expects = λ e. tt; strays = whole.strays; quiet = λ x y. refl; parts = λ among. last_parts state all told s.is_anew false (whole.account.handed ++ whole.account.earlier) s.assembler s.numbers (no_unit_is s.assembler.ended (both_of (has_no_unit s.assembler.ended) s.is_anew e).0) (whole.parts among) })
       | false ↦ λ e. rw e whole
     ] refl
 
     -- at the end none waits but the packet alone, which is dropped
-    finish_whole : (s : Reception) → s.waiting.buffer.held ≡ [] → s.waiting.is_over ≡ true → Whole kept drops most texts n calls s → Whole kept drops most texts n calls (after_finish s)
-    finish_whole s empty over whole =
+    finish_whole : (s : Reception) → s.assembler.ended ≡ [] → s.waiting.buffer.held ≡ [] → s.waiting.is_over ≡ true → Whole kept drops most texts n calls s → Whole kept drops most texts n calls (after_finish s)
+    finish_whole s gone_all empty over whole =
         let a = whole.account in
         let l = whole.ledger in
         let alone = packet_alone s.stray in
@@ -1047,6 +1115,8 @@ module _ (state : DepacketizerState) where
           counted = whole.counted;
           expects = λ e. tt;
           strays = λ e. dropped_strays (stray_packets calls) a.dropped s.stray (whole.strays e);
+          quiet = λ x y. refl;
+          parts = λ among. last_parts state all told s.is_anew s.is_anew (a.handed ++ a.earlier) s.assembler s.numbers gone_all (whole.parts among);
           ledger = record {
             exact = subst (λ (x : Packets). IsPermutation kept ((x ++ []) ++ ((a.handed ++ a.earlier) ++ []))) (sym same)
                 (parts_dropped kept a.dropped alone (a.handed ++ a.earlier) s.waiting.buffer.held l.exact);
@@ -1067,15 +1137,11 @@ module _ (state : DepacketizerState) where
         by [] e = refl
         by (p ∷ held) e = absurd (let bad = e in cc)
 
-    no_unit_is : (units : List AccessUnitValue) → has_no_unit units ≡ true → units ≡ []
-    no_unit_is [] e = refl
-    no_unit_is (unit ∷ units) e = absurd (let bad = e in cc)
-
     over_whole : (now : ℕ) (s : Reception) → NoneIsDueUnlessEnded now s → Whole kept drops most texts n calls s → Whole kept drops most texts n calls (ended_if_over s)
     over_whole now s until whole =
         elim (has_no_unit s.assembler.ended) as (λ m. has_no_unit s.assembler.ended ≡ m → Whole kept drops most texts n calls (cond (m && s.waiting.is_over) (after_finish s) s)) [
           | true ↦ λ m. elim s.waiting.is_over as (λ o. s.waiting.is_over ≡ o → Whole kept drops most texts n calls (cond o (after_finish s) s)) [
-            | true ↦ λ o. finish_whole s (none_waits now s.waiting o (until (no_unit_is s.assembler.ended m))) o whole
+            | true ↦ λ o. finish_whole s (no_unit_is s.assembler.ended m) (none_waits now s.waiting o (until (no_unit_is s.assembler.ended m))) o whole
             | false ↦ λ o. whole
           ] refl
           | false ↦ λ m. whole
@@ -1087,8 +1153,8 @@ module _ (state : DepacketizerState) where
       where
         by : (ended : List AccessUnitValue) → s.assembler.ended ≡ ended → has_bare ended ≡ false → Whole kept drops most (texts ++ unit_texts (unit_given_of s ended)) (n + 1) calls (without_given_of s ended)
         by [] is e = subst (λ (t : List (ℕ × List ℕ)). Whole kept drops most t (n + 1) calls s) (sym (append-nil texts))
-            (record { account = whole.account; ledger = whole.ledger; made = whole.made; counted = λ lt. whole.counted (omega (arith, lt)); expects = whole.expects; strays = whole.strays })
-        by (unit ∷ units) is e = record { account = whole.account; ledger = whole.ledger; made = given_made texts (whole.account.handed ++ whole.account.earlier) s.assembler whole.made unit units is e; counted = unit_counted n calls texts (whole.account.handed ++ whole.account.earlier) s.counts (unit.timestamp, unit.bytes) (whole_with s.decoder s.assembler.state.is_avc unit (first_ended s.numbers)) few_texts whole.counted; expects = whole.expects; strays = whole.strays }
+            (record { account = whole.account; ledger = whole.ledger; made = whole.made; counted = λ lt. whole.counted (omega (arith, lt)); expects = whole.expects; strays = whole.strays; quiet = whole.quiet; parts = whole.parts })
+        by (unit ∷ units) is e = record { account = whole.account; ledger = whole.ledger; made = given_made texts (whole.account.handed ++ whole.account.earlier) s.assembler whole.made unit units is e; counted = unit_counted n calls texts (whole.account.handed ++ whole.account.earlier) s.counts (unit.timestamp, unit.bytes) (whole_with s.decoder s.assembler.state.is_avc unit (first_ended s.numbers)) few_texts whole.counted; expects = whole.expects; strays = whole.strays; quiet = whole.quiet; parts = λ among. gone_parts state all told s.is_anew (whole.account.handed ++ whole.account.earlier) s.assembler s.numbers unit units is (whole.parts among) }
 
     -- those without bytes were passed over
     none_bare_of : (units : List AccessUnitValue) (s : Reception) → s.assembler.ended ≡ units → has_bare (without_bare_of s units).assembler.ended ≡ false
@@ -1138,6 +1204,8 @@ module _ (state : DepacketizerState) where
           counted = again RestartCall calls texts (a.handed ++ a.earlier) s.counts n le refl refl refl refl whole.counted;
           expects = λ e. tt;
           strays = λ e. absurd (let bad = e in cc);
+          quiet = λ x y. refl;
+          parts = λ among. restarted_parts state all told s.is_anew (a.handed ++ a.earlier) s.assembler s.numbers (whole.parts (record { packets = among.packets; numbers = among.numbers }));
           ledger = record {
             exact = parts_dropped kept a.dropped alone (a.handed ++ a.earlier) s.waiting.buffer.held l.exact;
             quiet = λ e. absurd (let bad = e in cc);
@@ -1159,6 +1227,8 @@ module _ (state : DepacketizerState) where
           counted = whole.counted;
           expects = whole.expects;
           strays = whole.strays;
+          quiet = whole.quiet;
+          parts = whole.parts;
           ledger = record {
             exact = l.exact;
             quiet = l.quiet;
@@ -1180,6 +1250,8 @@ module _ (state : DepacketizerState) where
           counted = whole.counted;
           expects = whole.expects;
           strays = whole.strays;
+          quiet = whole.quiet;
+          parts = whole.parts;
           ledger = record { exact = l.exact; quiet = l.quiet; turn = l.turn; before = l.before; few = l.few; due = l.due; waits = l.waits; numbered = l.numbered };
         }
 
@@ -1214,16 +1286,32 @@ module _ (state : DepacketizerState) where
         by None e = refl
         by (Some d) e = absurd (let bad = e in cc)
 
+    none_due : (due : Option ℕ) → is_some due ≡ false → due ≡ None
+    none_due None e = refl
+    none_due (Some d) e = absurd (let bad = e in cc)
+
     may_none : (over some : Bool) → (not over && not some) ≡ true → some ≡ false
     may_none false false e = refl
     may_none false true e = absurd (let bad = e in cc)
     may_none true some e = absurd (let bad = e in cc)
 
-    begin_whole : (number : ℕ) (s : Reception) → number < 65536 → Whole kept drops most texts n calls s → Whole kept drops most texts n calls (begun_reception number s)
-    begin_whole number s small whole =
-        elim (may_tell_first s.waiting) as (λ b. may_tell_first s.waiting ≡ b → Whole kept drops most texts n calls (begun_reception number s)) [
-          | true ↦ λ e. rw e (record { account = whole.account; ledger = told_ledger whole.account number s.waiting s.stray small whole.ledger; made = told_made texts (whole.account.handed ++ whole.account.earlier) s.assembler whole.made number; counted = whole.counted; expects = λ x. begun_due number s.waiting.buffer (may_none s.waiting.is_over (is_some s.waiting.buffer.due) e); strays = whole.strays })
-          | false ↦ λ e. rw e whole
+    begin_whole : (number : ℕ) (s : Reception) → number < 65536 → n ≤ length calls → Whole kept drops most texts n calls s → Whole kept drops most texts (length (BeginCall number ∷ calls)) (BeginCall number ∷ calls) (begun_reception number s)
+    begin_whole number s small le whole =
+        let handed = whole.account.handed ++ whole.account.earlier in
+        let still = again (BeginCall number) calls texts handed s.counts n (omega (arith, le)) refl refl refl refl whole.counted in
+        let before : AreAmong kept (BeginCall number ∷ calls) → AreAmong kept calls = λ among. record { packets = among.packets; numbers = λ m (k, within, same). among.numbers m (suc k, omega (arith, within), same) } in
+        elim (may_tell_first s.waiting) as (λ b. may_tell_first s.waiting ≡ b → Whole kept drops most texts (length (BeginCall number ∷ calls)) (BeginCall number ∷ calls) (begun_reception number s)) [
+          | true ↦ λ e. rw e (record {
+            account = whole.account;
+            ledger = told_ledger whole.account number s.waiting s.stray small whole.ledger;
+            made = told_made texts handed s.assembler whole.made number;
+            counted = still;
+            expects = λ x. begun_due number s.waiting.buffer (may_none s.waiting.is_over (is_some s.waiting.buffer.due) e);
+            strays = whole.strays;
+            quiet = λ x y. whole.quiet x (none_due s.waiting.buffer.due (may_none s.waiting.is_over (is_some s.waiting.buffer.due) e));
+            parts = λ among. told_parts state all told s.is_anew handed s.assembler s.numbers number small (among.numbers number (zero, omega arith, refl)) (λ x. whole.quiet x (none_due s.waiting.buffer.due (may_none s.waiting.is_over (is_some s.waiting.buffer.due) e))) (whole.parts (before among));
+          })
+          | false ↦ λ e. rw e (record { account = whole.account; ledger = whole.ledger; made = whole.made; counted = still; expects = whole.expects; strays = whole.strays; quiet = whole.quiet; parts = λ among. whole.parts (before among) })
         ] refl
 
   -- where it is told to be held the buffer holds it
@@ -1326,20 +1414,22 @@ module _ (state : DepacketizerState) where
         strays = whole.strays;
         counted = asides;
         expects = λ e. (pushed whole.account.handed s.waiting.buffer p small whole.ledger.waits whole.ledger.due).expects s.assembler.expected (whole.expects e);
+        quiet = λ e. due_quiet s.assembler.unit s.waiting.buffer.due (after_push s.waiting.buffer p).due (pushed whole.account.handed s.waiting.buffer p small whole.ledger.waits whole.ledger.due).expects (whole.quiet e);
+        parts = λ among. whole.parts (record { packets = (fewer (kept_packets calls) p calls (record { packets = among.packets; numbers = among.numbers })).packets; numbers = among.numbers });
         ledger = held_after (kept_packets calls) (list_any may_drop calls) (call_count ends_stream calls) whole.account now s.waiting s.stray p small whole.ledger (told_held s p is);
       }
   aside_whole calls now s p (pushes.Late n) small is whole =
       let calls_then = PushCall now p (pushes.Late n) ∷ calls in
       let asides = pushed_count calls now s p (pushes.Late n) whole in
-      record { account = whole.account; ledger = whole.ledger; made = whole.made; counted = asides; expects = whole.expects; strays = whole.strays }
+      record { account = whole.account; ledger = whole.ledger; made = whole.made; counted = asides; expects = whole.expects; strays = whole.strays; quiet = whole.quiet; parts = λ among. whole.parts (record { packets = among.packets; numbers = among.numbers }) }
   aside_whole calls now s p pushes.Twice small is whole =
       let calls_then = PushCall now p pushes.Twice ∷ calls in
       let asides = pushed_count calls now s p pushes.Twice whole in
-      record { account = whole.account; ledger = whole.ledger; made = whole.made; counted = asides; expects = whole.expects; strays = whole.strays }
+      record { account = whole.account; ledger = whole.ledger; made = whole.made; counted = asides; expects = whole.expects; strays = whole.strays; quiet = whole.quiet; parts = λ among. whole.parts (record { packets = among.packets; numbers = among.numbers }) }
   aside_whole calls now s p pushes.Full small is whole =
       let calls_then = PushCall now p pushes.Full ∷ calls in
       let asides = pushed_count calls now s p pushes.Full whole in
-      record { account = whole.account; ledger = whole.ledger; made = whole.made; counted = asides; expects = whole.expects; strays = whole.strays }
+      record { account = whole.account; ledger = whole.ledger; made = whole.made; counted = asides; expects = whole.expects; strays = whole.strays; quiet = whole.quiet; parts = λ among. whole.parts (record { packets = among.packets; numbers = among.numbers }) }
   aside_whole calls now s p pushes.Stray small is whole =
       let calls_then = PushCall now p pushes.Stray ∷ calls in
       let asides = pushed_count calls now s p pushes.Stray whole in
@@ -1349,6 +1439,8 @@ module _ (state : DepacketizerState) where
         strays = λ e. stray_strays (stray_packets calls) whole.account.dropped s.stray p (whole.strays e);
         counted = asides;
         expects = whole.expects;
+        quiet = whole.quiet;
+        parts = λ among. whole.parts (record { packets = (fewer (kept_packets calls) p calls (record { packets = among.packets; numbers = among.numbers })).packets; numbers = among.numbers });
         ledger = stray_after (kept_packets calls) (list_any may_drop calls) (call_count ends_stream calls) whole.account now s.waiting s.stray p small whole.ledger;
       }
   aside_whole calls now s p pushes.Jumped small is whole =
@@ -1356,12 +1448,12 @@ module _ (state : DepacketizerState) where
       let asides = pushed_count calls now s p pushes.Jumped whole in
       let joins = joined_moves whole.account.handed now s.waiting s.stray p small whole.ledger.numbered whole.ledger.waits whole.ledger.due (jumped_ahead s p is) in
       let it = jumped_after (kept_packets calls) (list_any may_drop calls) (call_count ends_stream calls) whole.account now s.waiting s.stray p small whole.ledger (one_alone s p pushes.Jumped (inl refl) is) joins in
-      record { account = it.account; ledger = it.ledger; made = subst (λ (packets : Packets). Made (texts_given calls) packets s.assembler) (sym it.same) whole.made; counted = subst (λ (packets : Packets). Counted (length calls_then) calls_then (texts_given calls) packets (after_reception now s p pushes.Jumped).counts) (sym it.same) asides; expects = λ e. joins.moves.expects s.assembler.expected (whole.expects e); strays = λ e. joined_strays (stray_packets calls) whole.account.dropped joins.moves.lost s.stray joins.lost_is (whole.strays e) }
+      record { account = it.account; ledger = it.ledger; made = subst (λ (packets : Packets). Made (texts_given calls) packets s.assembler) (sym it.same) whole.made; counted = subst (λ (packets : Packets). Counted (length calls_then) calls_then (texts_given calls) packets (after_reception now s p pushes.Jumped).counts) (sym it.same) asides; expects = λ e. joins.moves.expects s.assembler.expected (whole.expects e); quiet = λ e. due_quiet s.assembler.unit s.waiting.buffer.due (held_with now s.waiting s.stray p).buffer.due joins.moves.expects (whole.quiet e); parts = λ among. subst (λ (packets : Packets). PartsIf state all told s.framing.has_slice packets s.assembler s.numbers s.is_anew) (sym it.same) (whole.parts (record { packets = (fewer (kept_packets calls) p calls (record { packets = among.packets; numbers = among.numbers })).packets; numbers = among.numbers })); strays = λ e. joined_strays (stray_packets calls) whole.account.dropped joins.moves.lost s.stray joins.lost_is (whole.strays e) }
   aside_whole calls now s p pushes.Anew small is whole =
       let calls_then = PushCall now p pushes.Anew ∷ calls in
       let asides = pushed_count calls now s p pushes.Anew whole in
       let it = anew_after (kept_packets calls) (list_any may_drop calls) (call_count ends_stream calls) whole.account now s.waiting s.stray p small whole.ledger (one_alone s p pushes.Anew (inr refl) is) in
-      record { account = it.account; ledger = it.ledger; made = subst (λ (packets : Packets). Made (texts_given calls) packets s.assembler) (sym it.same) whole.made; counted = subst (λ (packets : Packets). Counted (length calls_then) calls_then (texts_given calls) packets (after_reception now s p pushes.Anew).counts) (sym it.same) asides; expects = λ e. absurd (let bad = e in cc); strays = λ e. absurd (let bad = e in cc) }
+      record { account = it.account; ledger = it.ledger; made = subst (λ (packets : Packets). Made (texts_given calls) packets s.assembler) (sym it.same) whole.made; counted = subst (λ (packets : Packets). Counted (length calls_then) calls_then (texts_given calls) packets (after_reception now s p pushes.Anew).counts) (sym it.same) asides; expects = λ e. absurd (let bad = e in cc); strays = λ e. absurd (let bad = e in cc); quiet = λ e. absurd (let bad = e in cc); parts = λ among. subst (λ (packets : Packets). PartsIf state all told s.framing.has_slice packets s.assembler s.numbers true) (sym it.same) (anew_parts state all told s.is_anew (whole.account.handed ++ whole.account.earlier) s.assembler s.numbers (whole.parts (record { packets = (fewer (kept_packets calls) p calls (record { packets = among.packets; numbers = among.numbers })).packets; numbers = among.numbers }))) }
 
   push_whole : (calls : List ReceiverCall) (now : ℕ) (s new : Reception) (p : Packet) (answer : Pushed) → p.0 < 65536 → length p.1.payload < 18446744073709551616 → answer ≡ reception_answer s p → IsPushed now s p answer new → WholeOf calls s → WholeOf (PushCall now p answer ∷ calls) new
   push_whole calls now s new p answer small len is it whole =
@@ -1369,8 +1461,10 @@ module _ (state : DepacketizerState) where
       let aside = aside_whole calls now s p answer small is whole in
       let same : (is_taken_at_once s p ≡ true) → (after_reception now s p answer).is_anew ≡ false = λ e.
       subst (λ (x : Pushed). (after_reception now s p x).is_anew ≡ false) (held_at_once s p small len e ∙ sym is) (at_once s p e).2 in
+      let none_left : (is_taken_at_once s p ≡ true) → (after_reception now s p answer).assembler.ended ≡ [] = λ e.
+      subst (λ (x : Pushed). (after_reception now s p x).assembler.ended ≡ []) (held_at_once s p small len e ∙ sym is) (no_unit_is s.assembler.ended (at_once s p e).1) in
       elim (is_taken_at_once s p) as (λ b. is_taken_at_once s p ≡ b → MatchBool b (IsDueTaken now (after_reception now s p answer) new) (new ≡ after_reception now s p answer) → WholeOf calls_then new) [
-        | true ↦ λ e taken. due_whole (kept_packets calls_then) (list_any may_drop calls_then) (call_count ends_stream calls_then) (texts_given calls_then) (length calls_then) calls_then (kept_few calls_then) (texts_few calls_then) now (after_reception now s p answer) new (same e) taken aside
+        | true ↦ λ e taken. due_whole (kept_packets calls_then) (list_any may_drop calls_then) (call_count ends_stream calls_then) (texts_given calls_then) (length calls_then) calls_then (kept_few calls_then) (texts_few calls_then) now (after_reception now s p answer) new (same e) (none_left e) taken aside
         | false ↦ λ e stands. subst (WholeOf calls_then) (sym stands) aside
       ] refl it
 
@@ -1386,6 +1480,8 @@ module _ (state : DepacketizerState) where
         made = whole.made;
         expects = whole.expects;
         strays = whole.strays;
+        quiet = whole.quiet;
+        parts = λ among. whole.parts (record { packets = among.packets; numbers = among.numbers });
         counted = λ lt. back_counted calls (a.handed ++ a.earlier) p s.counts reason (omega (arith, bound, few)) whole.counted (omega (arith, lt));
       })
   call_whole (NextCall now None) calls s new it whole =
@@ -1397,6 +1493,8 @@ module _ (state : DepacketizerState) where
         made = subst (λ (t : List (ℕ × List ℕ)). Made t (w.account.handed ++ w.account.earlier) new.assembler) texts_same w.made;
         expects = w.expects;
         strays = w.strays;
+        quiet = w.quiet;
+        parts = λ among. w.parts (record { packets = among.packets; numbers = among.numbers });
         counted = again (NextCall now None) calls (texts_given calls) (w.account.handed ++ w.account.earlier) new.counts (length calls + 1) (omega arith) refl refl refl refl
             (subst (λ (t : List (ℕ × List ℕ)). Counted (length calls + 1) calls t (w.account.handed ++ w.account.earlier) new.counts) texts_same w.counted);
       }
@@ -1408,6 +1506,8 @@ module _ (state : DepacketizerState) where
         made = w.made;
         expects = w.expects;
         strays = w.strays;
+        quiet = w.quiet;
+        parts = λ among. w.parts (record { packets = among.packets; numbers = among.numbers });
         counted = again (NextCall now (Some unit)) calls (texts_given calls ++ (unit.timestamp, unit.bytes) ∷ []) (w.account.handed ++ w.account.earlier) new.counts (length calls + 1) (omega arith) refl refl refl refl w.counted;
       }
   call_whole FinishCall calls s new it whole =
@@ -1418,6 +1518,8 @@ module _ (state : DepacketizerState) where
         made = w.made;
         expects = w.expects;
         strays = w.strays;
+        quiet = w.quiet;
+        parts = λ among. w.parts (record { packets = among.packets; numbers = among.numbers });
         counted = again FinishCall calls (texts_given calls) (w.account.handed ++ w.account.earlier) s.counts (length calls) (omega arith) refl refl refl refl w.counted;
       })
   call_whole RestartCall calls s new it whole =
@@ -1431,6 +1533,8 @@ module _ (state : DepacketizerState) where
         made = w.made;
         expects = w.expects;
         strays = w.strays;
+        quiet = w.quiet;
+        parts = λ among. w.parts (record { packets = among.packets; numbers = among.numbers });
         counted = again (SettingsCall config) calls (texts_given calls) (w.account.handed ++ w.account.earlier) s.counts (length calls) (omega arith) refl refl refl refl w.counted;
       })
   call_whole (LackCall now) calls s new it whole =
@@ -1441,19 +1545,13 @@ module _ (state : DepacketizerState) where
         made = w.made;
         expects = w.expects;
         strays = w.strays;
+        quiet = w.quiet;
+        parts = λ among. w.parts (record { packets = among.packets; numbers = among.numbers });
         counted = again (LackCall now) calls (texts_given calls) (w.account.handed ++ w.account.earlier) new.counts (length calls) (omega arith) refl refl refl refl w.counted;
       }
   call_whole (BeginCall number) calls s new it whole =
-      let begun = begin_whole (kept_packets calls) (list_any may_drop calls) (call_count ends_stream calls) (texts_given calls) (length calls) calls (kept_few calls) (texts_few calls) number s it.0 whole in
-      let w = subst (Whole (kept_packets calls) (list_any may_drop calls) (call_count ends_stream calls) (texts_given calls) (length calls) calls) (sym it.1) begun in
-      record {
-        account = w.account;
-        ledger = w.ledger;
-        made = w.made;
-        expects = w.expects;
-        strays = w.strays;
-        counted = again (BeginCall number) calls (texts_given calls) (w.account.handed ++ w.account.earlier) new.counts (length calls) (omega arith) refl refl refl refl w.counted;
-      }
+      subst (WholeOf (BeginCall number ∷ calls)) (sym it.1)
+      (begin_whole (kept_packets calls) (list_any may_drop calls) (call_count ends_stream calls) (texts_given calls) (length calls) calls (kept_few calls) (texts_few calls) number s it.0 (omega arith) whole)
 
   calls_whole : (config : AccessUnitConfig) (calls : List ReceiverCall) (s : Reception) → AreReceiverCalls (fresh_reception config state) calls s → WholeOf calls s
   calls_whole config calls s no_call = record {
@@ -1462,13 +1560,14 @@ module _ (state : DepacketizerState) where
     counted = λ lt. record { late = refl; twice = refl; stray = refl; anew = refl; units = refl; handed = refl };
     expects = λ e. tt;
     strays = λ e. record { joined = []; each_once = IsPermutation-refl [] };
+    quiet = λ x y. refl;
+    parts = λ among. fresh_parts state all told false [] state refl;
     ledger = record { exact = IsPermutation-refl []; quiet = λ e. refl; turn = tt; before = no_stream; few = omega arith; due = tt; waits = refl; numbered = tt };
   }
   calls_whole config calls s (one_call {call = call} {before = before} {t = t} others it) = call_whole call before t s it (calls_whole config before t others)
 
-  pub calls_accounted : (config : AccessUnitConfig) (calls : List ReceiverCall) (s : Reception) → AreReceiverCalls (fresh_reception config state) calls s → IsAccounted state calls s
-  calls_accounted config calls s are =
-      let whole = calls_whole config calls s are in
+  accounted : (calls : List ReceiverCall) (s : Reception) → WholeOf calls s → IsAccounted state calls s
+  accounted calls s whole =
       let l = whole.ledger in
       record {
         account = whole.account;
@@ -1477,3 +1576,53 @@ module _ (state : DepacketizerState) where
         each = record { exact = l.exact; none_dropped = l.quiet; strays = whole.strays };
         order = record { turn = l.turn; before = l.before; few = let few = l.few in omega (arith, few); due = l.due; waits = l.waits };
       }
+
+  -- what is given out and told whole has all its packets
+  record Tells (calls : List ReceiverCall) (s : Reception) (unit : ReceivedAccessUnitValue) : Type 0 where
+    account : Account
+    each : IsEachAccounted calls s account
+    order : AreHandedInOrder calls s account
+    whole : IsOfWholePackets told all (account.handed ++ account.earlier) state unit
+
+  same_unit : (a b : ReceivedAccessUnitValue) → Some a ≡ Some b → a ≡ b
+  same_unit a b e = cc
+
+  given_tells : (calls : List ReceiverCall) (now : ℕ) (s : Reception) (unit : ReceivedAccessUnitValue) → AreAmong (kept_packets calls) calls → Some unit ≡ unit_given s → unit.is_whole ≡ true → WholeOf calls s → Tells (NextCall now (Some unit) ∷ calls) (without_given s) unit
+  given_tells calls now s unit among is told_whole_is whole = by s.assembler.ended refl is
+    where
+      by : (ended : List AccessUnitValue) → s.assembler.ended ≡ ended → Some unit ≡ unit_given_of s ended → Tells (NextCall now (Some unit) ∷ calls) (without_given_of s ended) unit
+      by [] at e = absurd (let bad = e in cc)
+      by (u ∷ units) at e =
+          let l = whole.ledger in
+          let given = received_unit s.decoder s.waiting.config.has_sets s.assembler.state.is_avc u (first_ended s.numbers) in
+          let same = same_unit unit given e in
+          record {
+            account = whole.account;
+            each = record { exact = l.exact; none_dropped = l.quiet; strays = whole.strays };
+            order = record { turn = l.turn; before = l.before; few = let few = l.few in omega (arith, few); due = l.due; waits = l.waits };
+            whole = subst (IsOfWholePackets told all (whole.account.handed ++ whole.account.earlier) state) (sym same)
+                (first_whole state all told s.is_anew (whole.account.handed ++ whole.account.earlier) s.decoder s.waiting.config.has_sets s.assembler s.numbers u units at (whole.parts among)
+                (subst (λ (x : ReceivedAccessUnitValue). x.is_whole ≡ true) same told_whole_is));
+          }
+
+  next_tells : (calls : List ReceiverCall) (now : ℕ) (s new : Reception) (unit : ReceivedAccessUnitValue) → AreAmong (kept_packets calls) calls → IsNext now s new (Some unit) → unit.is_whole ≡ true → WholeOf calls s → Tells (NextCall now (Some unit) ∷ calls) new unit
+  next_tells calls now s new unit among it told_whole_is whole =
+      let kept = kept_packets calls in
+      let drops = list_any may_drop calls in
+      let most = call_count ends_stream calls in
+      let texts = texts_given calls in
+      let n = length calls in
+      let begun = begun_whole kept drops most texts n calls (kept_few calls) (texts_few calls) s whole in
+      let drained = drained_whole kept drops most texts n calls (kept_few calls) (texts_few calls) now (ended_if_anew (without_bare s)) it.drained it.taken (ready_begun kept drops most texts n calls (kept_few calls) (texts_few calls) s) begun in
+      let over = over_whole kept drops most texts n calls (kept_few calls) (texts_few calls) now it.drained it.until drained in
+      subst (λ (r : Reception). Tells (NextCall now (Some unit) ∷ calls) r unit) (sym it.stands)
+      (given_tells calls now (without_bare (ended_if_over it.drained)) unit among it.unit_is told_whole_is (bare_whole kept drops most texts n calls (kept_few calls) (texts_few calls) (ended_if_over it.drained) over))
+
+pub calls_accounted : (state : DepacketizerState) (config : AccessUnitConfig) (calls : List ReceiverCall) (s : Reception) → AreReceiverCalls (fresh_reception config state) calls s → IsAccounted state calls s
+calls_accounted state config calls s are = accounted state [] [] calls s (calls_whole state [] [] config calls s are)
+
+pub calls_told_whole : (state : DepacketizerState) (config : AccessUnitConfig) (now : ℕ) (unit : ReceivedAccessUnitValue) (calls : List ReceiverCall) (s : Reception) → AreReceiverCalls (fresh_reception config state) (NextCall now (Some unit) ∷ calls) s →
+    unit.is_whole ≡ true → IsToldWhole state (NextCall now (Some unit) ∷ calls) s unit
+calls_told_whole state config now unit calls s (one_call {t = t} others it) whole =
+    let told = next_tells state (kept_packets calls) (told_numbers calls) calls now t s unit (record { packets = λ p is. is; numbers = λ number is. is }) it whole (calls_whole state (kept_packets calls) (told_numbers calls) config calls t others) in
+    record { account = told.account; each = told.each; order = told.order; whole = told.whole }

@@ -13,4 +13,7 @@ pub mod NackLemmas
 pub mod NackOrderLemmas
 pub mod DecodableLemmas
 pub mod GivenLemmas
+pub mod WholeSentLemmas
 pub mod AccountLemmas
+pub mod SentLemmas
+pub mod UnitsSentLemmas

@@ -14,6 +14,8 @@ pub mod ReceivedAccessUnit
 pub mod Reception
 pub mod Decodable
 pub mod Account
+pub mod WholeSent
+pub mod UnitsSent
 pub mod Missing
 pub mod Nacks
 pub mod Limits

@@ -1,16 +1,22 @@
 //! Laws of the definitions, each the contract of a function without a result.
 
-ghost use Rattle.std.specs.Prelude.{◌≡◌, ◌≤◌, ◌<◌, ◌^◌, ◌==◌, true, ℕ, Bool, List, [], ◌∷◌, ◌++◌, Option, length, map};
-ghost use Rattle.std.specs.List.{list_any};
+ghost use Rattle.std.specs.Prelude.{◌≡◌, ◌≤◌, ◌<◌, ◌^◌, ◌==◌, true, ℕ, Bool, List, [], ◌∷◌, ◌++◌, Option, Some, length, map};
+ghost use Rattle.std.specs.List.{list_any, Contains};
+ghost use Rattle.h26x_model.specs.Payload.Facts.{IsPayloadFormat};
 ghost use Rattle.h26x_model.specs.Receive.DepacketizerState.{DepacketizerState};
+ghost use Rattle.h26x_model.specs.Send.PacketizerState.{PacketizerState};
 ghost use Rattle.h26x_reorder.specs.Rtp.{RtpBody};
 ghost use Rattle.h26x_reorder.specs.ReorderBuffer.{IsHeldInOrder};
+ghost use Rattle.h26x_assembler.specs.AnyUnits.{SentPackets, any_bodies};
+ghost use Rattle.h26x_assembler.specs.StampedCalls.{StampedCall, AreStreamed, sent_bodies, sent_units};
 ghost use Rattle.h26x_access_units.specs.declared.config.AccessUnitConfig.{AccessUnitConfig};
 ghost use Rattle.h26x_access_units.specs.Missing.{missing_numbers, AreExactlyMissing};
 ghost use Rattle.h26x_access_units.specs.ReceivedAccessUnit.{ReceivedAccessUnitValue};
 ghost use Rattle.h26x_access_units.specs.Reception.{Reception, fresh_reception, begun_reception, restarted, with_settings, ended_reception, reception_answer, after_reception, IsPushed, IsNext};
 ghost use Rattle.h26x_access_units.specs.Decodable.{GivenUnit, IsCleanWhereDecodable, WereGiven, IsGivenBehind};
-ghost use Rattle.h26x_access_units.specs.Account.{ReceiverCall, AreReceiverCalls, IsAccounted};
+ghost use Rattle.h26x_access_units.specs.Account.{ReceiverCall, NextCall, AreReceiverCalls, IsAccounted, kept_packets};
+ghost use Rattle.h26x_access_units.specs.WholeSent.{told_numbers, IsToldWhole, CameFromSender, WasSent};
+ghost use Rattle.h26x_access_units.specs.UnitsSent.{AreNeighboursApart, IsOneSent, IsWrittenAsSent, call_units, told_unit};
 ghost use Rattle.h26x_access_units.specs.Passed.{is_told_taken, AreNumbers, AreSoonBehind};
 ghost use Rattle.h26x_access_units.specs.declared.nacks.Nack.{Nack};
 ghost use Rattle.h26x_access_units.specs.Nacks.{nacks_now, nack_among, AreNumbersInOrder};
@@ -18,6 +24,7 @@ ghost use Rattle.h26x_access_units.specs.LostPictures.{SentPicture, IsToldWithou
 ghost use Rattle.h26x_access_units.specs.Limits.{IsWithinLimits, StaysWithinLimits};
 
 use crate::pushed::Pushed;
+use h26x_model::laws as model_laws;
 
 /// The numbers that are told to be missing are exactly those between the one that is due and the last
 /// that waits that don't wait.
@@ -114,3 +121,56 @@ pub fn packets_are_accounted_for()
         (calls : List ReceiverCall) (s : Reception) →
         AreReceiverCalls (fresh_reception config state) calls s → IsAccounted state calls s }
 {}
+
+/// Whatever packets come, and whatever calls are made: an access unit that `next` gives out and that is
+/// told whole has each packet that was sent between where it began and where it ended, one right behind
+/// the other by their numbers, and its bytes are what a depacketizer writes of them.
+pub fn what_is_told_whole_has_all_its_packets()
+    ensures { (config : AccessUnitConfig) (state : DepacketizerState) (now : ℕ)
+        (unit : ReceivedAccessUnitValue) (calls : List ReceiverCall) (s : Reception) →
+        AreReceiverCalls (fresh_reception config state) (NextCall now (Some unit) ∷ calls) s →
+        unit.is_whole ≡ true → IsToldWhole state (NextCall now (Some unit) ∷ calls) s unit }
+{}
+
+/// Whole means sent. Of a sender whose access units are told apart, an access unit that is told whole
+/// is one of those that were sent: all packets with its timestamp, one behind the other, and its bytes
+/// are what a depacketizer writes of all of them.
+pub fn what_is_told_whole_was_sent()
+    ensures { (config : AccessUnitConfig) (state : DepacketizerState) (now : ℕ)
+        (unit : ReceivedAccessUnitValue) (calls : List ReceiverCall) (s : Reception)
+        (sent : List RtpBody) (first : ℕ) → IsPayloadFormat state.format →
+        AreReceiverCalls (fresh_reception config state) (NextCall now (Some unit) ∷ calls) s →
+        CameFromSender (told_numbers calls) (kept_packets calls) state sent first →
+        unit.is_whole ≡ true → WasSent state sent first unit }
+{
+    model_laws::depacketizers_go_on();
+}
+
+/// What was sent so is one of a sender's access units, where each has a packet, and neighbours have
+/// other timestamps: its bytes are what a depacketizer writes of all its packets.
+pub fn what_was_sent_is_an_access_unit()
+    ensures { (r : DepacketizerState) (units : List SentPackets) (first : ℕ)
+        (unit : ReceivedAccessUnitValue) → AreNeighboursApart units →
+        WasSent r (any_bodies units) first unit → IsOneSent r units unit }
+{}
+
+/// Of a packetizer's packets of a call a depacketizer writes what was sent with it, byte for byte.
+pub fn packets_of_a_call_are_written_as_sent()
+    ensures { (s : PacketizerState) (r : DepacketizerState) (c : StampedCall) →
+        IsPayloadFormat s.format → r.format ≡ s.format → AreStreamed s (c ∷ []) →
+        IsWrittenAsSent s r c }
+{
+    model_laws::what_calls_send_is_carried();
+}
+
+/// What was sent so of a packetizer's calls is one of the access units that they send, byte for byte.
+pub fn what_calls_sent_is_their_access_unit()
+    ensures { (s : PacketizerState) (calls : List StampedCall) (r : DepacketizerState) (first : ℕ)
+        (unit : ReceivedAccessUnitValue) → IsPayloadFormat s.format → r.format ≡ s.format →
+        AreStreamed s calls → AreNeighboursApart (call_units s calls) →
+        WasSent r (sent_bodies s calls) first unit →
+        Contains (sent_units s r.is_avc calls) (told_unit unit) }
+{
+    model_laws::packetizers_go_on();
+    model_laws::what_calls_send_is_carried();
+}

@@ -25,6 +25,7 @@ mod pushed;
 mod receiver;
 mod unit;
 mod way;
+mod whole_cases;
 
 pub use arrival::Arrival;
 pub use config::AccessUnitConfig;
