@@ -29,12 +29,13 @@
     X(access_units_free) X(sdp_free) X(h265_paci_packet)                                           \
     X(sdp_read) X(sdp_of_payload) X(fits_single_units) X(rtpmap_read) X(rtpmap_write)              \
     X(is_partition_head) X(is_partition_tail) X(detect_keyframe) X(detect_h264_nalu) X(next_unit)  \
-    X(set_lowest_header)                                                                           \
+    X(set_lowest_header) X(begins_keyframe)                                                        \
     X(unit_is_plain) X(out_size_hint) X(h264_profile_level) X(h265_is_known) X(h266_is_known)      \
     X(packetizer_clone) X(packetizer_set_numbers) X(packetizer_set_max_size)                       \
     X(packetizer_set_lowest_header) X(packetize)                                                   \
     X(packetize_unit) X(packetize_into) X(packets_size) X(packetize_unit_into) X(packet_count)     \
     X(packetizer_set_packing) X(packetize_units) X(packetize_units_into) X(units_size)             \
+    X(packetizer_set_delimiters)                                                                   \
     X(packet_len) X(packets_len) X(packet_copy) X(packets_copy) X(depacketizer_clone)              \
     X(depacketizer_same) X(depacketizer_set_numbers) X(depacketize) X(written_copy) X(give_up_run) \
     X(receiver_clone) X(receiver_set_numbers) X(receiver_set_avc) X(receive) X(receiver_restart)   \
@@ -343,6 +344,8 @@ static uint64_t sends(int s, const struct drawn *d, struct answer *a, struct out
                                d->y % 100 == 0 ? SIZE_MAX / (1 + d->z % 4) : d->headroom, count, size);
     case CALL_packetizer_set_packing:
         return l->packetizer_set_packing(P, d->x % 6);
+    case CALL_packetizer_set_delimiters:
+        return l->packetizer_set_delimiters(P, d->numbers);
     case CALL_packetize_units:
         return l->packetize_units(P, d->mtu, d->bytes, d->len, count, why);
     case CALL_packetize_units_into:
@@ -503,6 +506,8 @@ static uint64_t looks(int s, const struct drawn *d, struct answer *a, struct out
         return l->is_partition_tail(d->codec, d->avc, d->bytes, d->len);
     case CALL_detect_keyframe:
         return l->detect_keyframe(d->codec, d->bytes, d->len);
+    case CALL_begins_keyframe:
+        return l->begins_keyframe(d->codec, d->numbers, d->bytes, d->len);
     case CALL_detect_h264_nalu:
         return l->detect_h264_nalu(d->bytes, d->len, d->x % 32);
     case CALL_set_lowest_header:

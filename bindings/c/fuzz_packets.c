@@ -248,6 +248,8 @@ static void ask(uint32_t codec, struct input packet)
     expect(codec != H26X_H264 || ends);
     expect(codec != H26X_H264 || !h26x_is_partition_tail(codec, false, at, packet.len));
     expect(codec != H26X_H264 || key == h26x_detect_h264_nalu(at, packet.len, 5));
+    /* (the unit of a PACI packet isn't detected, nor one of a single byte in an aggregate) */
+    expect(codec == H26X_H265 || key || !h26x_begins_keyframe(codec, false, at, packet.len));
     saw(3, codec, begins << 2 | ends << 1 | key, type_of(codec, packet.at, packet.len));
 }
 

@@ -781,6 +781,19 @@ static void check_detect_keyframe(void)
     hands_on_bool(h26x_detect_keyframe((uint32_t)given.value, given.in.at, given.in.len));
 }
 
+STUB(begins_keyframe);
+bool proved_begins_keyframe(uint32_t codec, bool numbers, const uint8_t *packet, size_t packet_len)
+{
+    expect(numbers == (given.other_value != 0));
+    return proved_is_partition_head(codec, packet, packet_len);
+}
+
+static void check_begins_keyframe(void)
+{
+    give(IN);
+    hands_on_bool(h26x_begins_keyframe((uint32_t)given.value, given.other_value != 0, given.in.at, given.in.len));
+}
+
 STUB(detect_h264_nalu);
 bool proved_detect_h264_nalu(const uint8_t *packet, size_t packet_len, uint8_t type)
 {
@@ -1132,6 +1145,7 @@ int main(void)
     in_each_case(check_is_partition_head);
     in_each_case(check_is_partition_tail);
     in_each_case(check_detect_keyframe);
+    in_each_case(check_begins_keyframe);
     in_each_case(check_detect_h264_nalu);
     in_each_case(check_set_lowest_header);
     in_each_case(check_next_unit);

@@ -19,6 +19,12 @@ static bool is_key(uint32_t codec, const char *packet)
     return h26x_detect_keyframe(codec, in.at, in.len);
 }
 
+static bool begins_key(uint32_t codec, bool numbers, const char *packet)
+{
+    struct bytes in = bytes_of(packet);
+    return h26x_begins_keyframe(codec, numbers, in.at, in.len);
+}
+
 static bool has_nalu(const char *packet, uint8_t type)
 {
     struct bytes in = bytes_of(packet);
@@ -53,6 +59,29 @@ static void check_detection(struct tally *t)
     expect(t, !is_key(1, "65"));
     expect(t, has_nalu("18 0002 67aa 0002 68bb", 7) && !has_nalu("18 0002 67aa 0002 68bb", 5));
     expect(t, has_nalu("6742", 7) && !has_nalu("", 0));
+}
+
+/* Key units are found in aggregates with numbers too: of H.265 behind DONL and each DOND (RFC 7798, 4.4.2), of H.266
+ * behind DONL (RFC 9328, 4.3.2). */
+static void check_beginnings(struct tally *t)
+{
+    expect(t, begins_key(H26X_H264, false, "6588") && begins_key(H26X_H264, true, "18 0002 67aa 0002 65bb"));
+    expect(t, begins_key(H26X_H264, false, "7c8500") && !begins_key(H26X_H264, false, "7c4500"));
+    expect(t, !begins_key(H26X_H264, false, "18 0002 67aa 0002 41bb") && !begins_key(H26X_H264, false, "1d85 0000"));
+    expect(t, begins_key(H26X_H265, false, "6001 0003 0201aa 0003 2601af"));
+    expect(t, begins_key(H26X_H265, true, "6001 0007 0003 0201aa 00 0003 2601af"));
+    expect(t, begins_key(H26X_H265, true, "6001 0007 0003 2601aa 00 0003 0201af"));
+    expect(t, !begins_key(H26X_H265, true, "6001 0007 0003 0201aa 26 0003 0201af"));
+    expect(t, !begins_key(H26X_H265, false, "6001 0007 0003 0201aa 00 0003 2601af"));
+    expect(t, begins_key(H26X_H265, true, "2601 0007 af") && begins_key(H26X_H265, true, "6201 93 0007 aa"));
+    expect(t, !begins_key(H26X_H265, true, "6201 13 aa") && !begins_key(H26X_H265, false, "2601"));
+    expect(t, begins_key(H26X_H265, false, "6401 2600 aa") && !begins_key(H26X_H265, false, "6401 0200 aa"));
+    expect(t, begins_key(H26X_H266, false, "00e1 0003 0079aa 0003 0041af"));
+    expect(t, begins_key(H26X_H266, true, "00e1 0007 0003 0079aa 0003 0041af"));
+    expect(t, !begins_key(H26X_H266, true, "00e1 0007 0003 0079aa 0003 0001af"));
+    expect(t, !begins_key(H26X_H266, false, "00e1 0007 0003 0079aa 0003 0041af"));
+    expect(t, begins_key(H26X_H266, true, "00e9 87 0007 aa") && !begins_key(H26X_H266, true, "00e9 07 aa"));
+    expect(t, !begins_key(1, false, "65") && !begins_key(H26X_H264, false, ""));
 }
 
 /* Whether a packet becomes another one. */
@@ -154,6 +183,7 @@ void check_looking(struct tally *t)
 {
     check_heads_and_tails(t);
     check_detection(t);
+    check_beginnings(t);
     check_lowest_headers(t);
     check_plain_units(t);
     check_hidden_units(t);

@@ -30,6 +30,7 @@ static void check_empty_inputs(struct tally *t, uint32_t codec)
     expect(t, h26x_receive(&r, 1, NULL, 0, to, 4, NULL, NULL, NULL, NULL, NULL) == H26X_SHORT_PACKET);
     expect(t, to[0] == 7);
     expect(t, !h26x_is_partition_head(codec, NULL, 0) && !h26x_detect_keyframe(codec, NULL, 0));
+    expect(t, !h26x_begins_keyframe(codec, true, NULL, 0));
     expect(t, h26x_is_partition_tail(codec, true, NULL, 0) == (codec == H26X_H264));
     expect(t, !h26x_next_unit(codec, NULL, 0, 0, NULL, NULL) && !h26x_unit_is_plain(codec, NULL, 0));
     h26x_packetizer_free(p);
@@ -71,6 +72,7 @@ static void check_inputs_of_null(struct tally *t, uint32_t codec, size_t len)
     expect(t, h26x_depacketize(&d, true, NULL, len, to, 16, &size, &extra, NULL) == H26X_SHORT_PACKET);
     expect(t, h26x_receive(&r, 7, NULL, len, to, 16, &size, &extra, NULL, NULL, NULL) == H26X_SHORT_PACKET);
     expect(t, !h26x_is_partition_head(codec, NULL, len) && !h26x_detect_keyframe(codec, NULL, len));
+    expect(t, !h26x_begins_keyframe(codec, false, NULL, len));
     expect(t, h26x_is_partition_tail(codec, true, NULL, len) == (codec == H26X_H264));
     expect(t, !h26x_detect_h264_nalu(NULL, len, 0));
     h26x_set_lowest_header(codec, true, NULL, len);

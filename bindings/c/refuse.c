@@ -200,6 +200,17 @@ static void refuse_every_unit(const struct codec *c)
     expect(h26x_packetize_units(&p, LIMIT, (const uint8_t *)"\xff\xff", 2, &count, &why) == H26X_UNIT_FORBIDDEN);
     expect(count == 1 && why.first == 0 && why.second == 2);
     without_memory(h26x_packetizer_set_packing(&p, H26X_APART) == H26X_OK);
+    without_memory(h26x_packetizer_set_delimiters(&p, false) == H26X_OK);
+
+    /* Where delimiters are left out, a unit that can't go takes memory for its place among all. */
+    uint32_t refused_code;
+    long granted = 0;
+    do {
+        refuse_requests(granted++, false);
+        refused_code = h26x_packetize_units(&p, LIMIT, (const uint8_t *)"\xff\xff", 2, &count, &why);
+        expect((grant_all() > 0) == (refused_code == H26X_OUT_OF_MEMORY) && count == 1);
+    } while (refused_code == H26X_OUT_OF_MEMORY);
+    expect(granted >= 3 && refused_code == H26X_UNIT_FORBIDDEN && why.first == 0 && why.second == 2);
     expect(h26x_packetize_units(&p, LIMIT, sets, c->sets_len, &count, NULL) == H26X_OK && count == 2);
     h26x_packetizer_free(p);
 }
@@ -676,6 +687,7 @@ static void look_without_memory(const struct codec *c)
     without_memory(h26x_is_partition_head(c->number, unit, 9));
     without_memory(h26x_is_partition_tail(c->number, true, unit, 9));
     without_memory(h26x_detect_keyframe(c->number, unit, 9));
+    without_memory(h26x_begins_keyframe(c->number, false, unit, 9));
     without_memory(h26x_detect_h264_nalu(sets + 3, 2, 7) == (c->number == H26X_H264));
     without_memory((h26x_set_lowest_header(c->number, false, unit, 9), true));
     without_memory(h26x_out_size_hint(1200) == 1208);

@@ -434,6 +434,22 @@ static void check_every_unit(struct tally *t)
     expect(t, h26x_packetizer_set_packing(&q, H26X_TOGETHER) == H26X_OK);
     sends_all(t, &q, 1500, sets, "78 0002 6742 0002 68ce");
     sends_all(t, &p, 1500, sets, "6742|68ce");
+
+    /* Delimiters are left out where that is set, which is copied too; a unit that can't go is told by its place among
+     * all. */
+    sends_all(t, &q, 1500, "000001 0910 000001 6588", "78 0002 0910 0002 6588");
+    expect(t, h26x_packetizer_set_delimiters(&q, false) == H26X_OK);
+    sends_all(t, &q, 1500, "000001 0910 000001 6588 000001 0cff80", "6588");
+    sends_all(t, &q, 1500, "0910", "");
+    b = bytes_of("000001 0910 000001 6588 000001 0cff80 000001 e588");
+    expect(t, h26x_packetize_units(&q, 1500, b.at, b.len, &count, &why) == H26X_UNIT_FORBIDDEN && count == 0);
+    expect(t, why.first == 3 && why.second == 2);
+    expect(t, h26x_units_size(&q, 1500, b.at, b.len, 0, NULL, NULL, &why) == H26X_UNIT_FORBIDDEN && why.first == 3);
+    h26x_packetizer_free(p);
+    expect(t, h26x_packetizer_clone(&q, &p) == H26X_OK);
+    sends_all(t, &p, 1500, "000001 0910 000001 6588", "6588");
+    expect(t, h26x_packetizer_set_delimiters(&p, true) == H26X_OK);
+    sends_all(t, &p, 1500, "000001 0910 000001 6588", "78 0002 0910 0002 6588");
     h26x_packetizer_free(p);
     h26x_packetizer_free(q);
 
@@ -474,6 +490,7 @@ static void check_refusals(struct tally *t)
     expect(t, h26x_packetizer_set_lowest_header(&depacketizer, true) == H26X_WRONG_END);
     expect(t, h26x_packetizer_set_packing(&depacketizer, H26X_APART) == H26X_WRONG_END);
     expect(t, h26x_packetizer_set_packing(&depacketizer, 4) == H26X_WRONG_END);
+    expect(t, h26x_packetizer_set_delimiters(&depacketizer, false) == H26X_WRONG_END);
     count = 9;
     expect(t, h26x_packetize_units(&depacketizer, 9, unit, 1, &count, NULL) == H26X_WRONG_END && count == 0);
     count = 9;

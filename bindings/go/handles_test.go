@@ -25,6 +25,7 @@ func closedCalls(p *h26x.Packetizer, d *h26x.Depacketizer, r *h26x.Receiver, u *
 		"SetDONL":           func() error { return p.SetDONL(true) },
 		"SetMaxPacketSize":  func() error { return p.SetMaxPacketSize(9) },
 		"SetLowestHeader":   func() error { return p.SetLowestHeader(true) },
+		"SetDelimiters":     func() error { return p.SetDelimiters(true) },
 		"Clone":             func() error { _, err := p.Clone(); return err },
 		"PacketsSize":       func() error { _, _, err := p.PacketsSize(99, unit, 0); return err },
 		"Unmarshal":         func() error { _, err := d.Unmarshal(unit); return err },

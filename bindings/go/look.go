@@ -24,6 +24,14 @@ func DetectKeyframe(codec Codec, packet []byte) bool {
 	return bool(C.h26x_detect_keyframe(C.uint32_t(codec), at(packet), C.size_t(len(packet))))
 }
 
+// BeginsKeyframe tells whether a packet begins a unit of a keyframe: it holds one, alone or in an aggregate, or is its
+// first fragment. donl tells whether packets bear decoding order numbers; those of H.264 don't. So a forwarder finds where a keyframe begins,
+// whichever units share packets. Key units are slices of IDR pictures of H.264, of IRAP pictures of H.265, of IDR and
+// CRA pictures of H.266. False for a packet that a Depacketizer refuses, and for an unknown codec.
+func BeginsKeyframe(codec Codec, donl bool, packet []byte) bool {
+	return bool(C.h26x_begins_keyframe(C.uint32_t(codec), C.bool(donl), at(packet), C.size_t(len(packet))))
+}
+
 // DetectH264NALU tells whether an H.264 packet is known to hold a unit of this type, or to be the first
 // fragment of one.
 func DetectH264NALU(packet []byte, naluType uint8) bool {

@@ -67,6 +67,21 @@ func TestKeyframes(t *testing.T) {
 			t.Errorf("%v: nothing", codec)
 		}
 	}
+	// In aggregates with numbers too: RFC 7798, 4.4.2 has a DONL and a DOND, RFC 9328, 4.3.2 a DONL.
+	for codec, packets := range map[h26x.Codec]string{
+		h26x.H264: "7c850000|18 0002 67aa 0002 65bb|7c050000|18 0002 67aa 0002 41bb",
+		h26x.H265: "62019307aaaa|6001 0007 0003 0201aa 00 0003 2601af|6001 0007 0003 0201aa 26 0003 0201af|6001 0003 0201aa 0003 2601af",
+		h26x.H266: "00e98707aaaa|00e1 0007 0003 0079aa 0003 0041af|00e1 0007 0003 0079aa 0003 0001af|00e1 0003 0079aa 0003 0041af",
+	} {
+		for i, packet := range many(packets) {
+			if h26x.BeginsKeyframe(codec, true, packet) != (i < 2) {
+				t.Errorf("%v: %x", codec, packet)
+			}
+		}
+	}
+	if !h26x.BeginsKeyframe(h26x.H265, false, some("6001 0003 0201aa 0003 2601af")) || h26x.BeginsKeyframe(1, false, some("65")) {
+		t.Error("keyframes that begin")
+	}
 	packet := some("18 0002 67aa 0002 68bb")
 	if !h26x.DetectH264NALU(packet, 7) || h26x.DetectH264NALU(packet, 5) || h26x.DetectH264NALU(nil, 0) {
 		t.Error("types of H.264")

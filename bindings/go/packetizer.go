@@ -3,28 +3,32 @@ package h26x
 /*
 #include <h26x.h>
 
-// Makes the packets of a payload, of one unit as it is, or of the units of an access unit.
+// What a call makes packets of: a payload, one unit as it is, or the units of an access unit.
+enum { OF_PAYLOAD, OF_UNIT, OF_UNITS };
+
 static uint32_t packets_into(int of, h26x_packetizer *p, size_t mtu, const uint8_t *bytes, size_t len,
                              size_t headroom, uint8_t *to, size_t room, size_t *ends, size_t ends_room,
                              size_t *count, size_t *size, h26x_refusal *why)
 {
-    if (of == 2)
+    if (of == OF_UNITS)
         return h26x_packetize_units_into(p, mtu, bytes, len, headroom, to, room, ends, ends_room, count, size, why);
-    return of == 1 ? h26x_packetize_unit_into(p, mtu, bytes, len, headroom, to, room, ends, ends_room, count, size)
-                   : h26x_packetize_into(p, mtu, bytes, len, headroom, to, room, ends, ends_room, count, size);
+    return of == OF_UNIT
+               ? h26x_packetize_unit_into(p, mtu, bytes, len, headroom, to, room, ends, ends_room, count, size)
+               : h26x_packetize_into(p, mtu, bytes, len, headroom, to, room, ends, ends_room, count, size);
 }
 
 static uint32_t size_of(int of, const h26x_packetizer *p, size_t mtu, const uint8_t *bytes, size_t len,
                         size_t headroom, size_t *count, size_t *size, h26x_refusal *why)
 {
-    return of == 2 ? h26x_units_size(p, mtu, bytes, len, headroom, count, size, why)
-                   : h26x_packets_size(p, mtu, bytes, len, headroom, count, size);
+    return of == OF_UNITS ? h26x_units_size(p, mtu, bytes, len, headroom, count, size, why)
+                          : h26x_packets_size(p, mtu, bytes, len, headroom, count, size);
 }
 */
 import "C"
 
 import (
 	"runtime"
+	"strconv"
 	"sync"
 )
 
@@ -45,13 +49,6 @@ type sending struct {
 	why         C.h26x_refusal
 }
 
-// What a call makes packets of.
-const (
-	ofPayload = iota
-	ofUnit
-	ofUnits
-)
-
 // A Packing says which units of an access unit share packets.
 type Packing uint32
 
@@ -64,6 +61,22 @@ const (
 	PackApart        Packing = C.H26X_APART
 	PackSingle       Packing = C.H26X_SINGLE
 )
+
+// String is its name.
+func (p Packing) String() string {
+	switch p {
+	case PackTogether:
+		return "PackTogether"
+	case PackBeforeSlices:
+		return "PackBeforeSlices"
+	case PackApart:
+		return "PackApart"
+	case PackSingle:
+		return "PackSingle"
+	default:
+		return "Packing(" + strconv.FormatUint(uint64(p), 10) + ")"
+	}
+}
 
 // NewPacketizer makes a packetizer for which no parameter set waits, whose packets bear no decoding order
 // numbers. Its errors are ErrUnknownCodec and ErrOutOfMemory.
@@ -161,6 +174,19 @@ func (p *Packetizer) SetPacking(packing Packing) error {
 	return refusedBy(C.h26x_packetizer_set_packing(&p.call.handle, C.uint32_t(packing)))
 }
 
+// SetDelimiters sets whether PacketizeUnits sends access unit delimiters and filler data, of which a decoder needs
+// nothing. It does at first; else an access unit is sent as if these units weren't there, but that a unit that can't go
+// is told by its place among all. A stream of H.266 of several layers has to have its delimiters (H.266, 7.4.2.4). Its
+// error is ErrClosed.
+func (p *Packetizer) SetDelimiters(delimiters bool) error {
+	p.mu.Lock()
+	defer p.mu.Unlock()
+	if p.call == nil {
+		return ErrClosed
+	}
+	return refusedBy(C.h26x_packetizer_set_delimiters(&p.call.handle, C.bool(delimiters)))
+}
+
 // Payload is Packetize for Pion: it answers nil where that answers an error, which is for want of memory or
 // behind Close.
 func (p *Packetizer) Payload(mtu uint16, payload []byte) [][]byte {
@@ -191,7 +217,7 @@ func (p *Packetizer) Payload(mtu uint16, payload []byte) [][]byte {
 //   - A unit of H.265 or H.266 that is a bare header of two bytes is sent, and depacketizers refuse its
 //     packet as ErrShortPacket, which changes nothing.
 func (p *Packetizer) Packetize(mtu uint16, payload []byte) ([][]byte, error) {
-	return p.copies(ofPayload, mtu, payload)
+	return p.copies(C.OF_PAYLOAD, mtu, payload)
 }
 
 // PacketizeUnit answers the RTP payloads of one NAL unit as it is: no start code is looked for in it, and
@@ -201,19 +227,19 @@ func (p *Packetizer) Packetize(mtu uint16, payload []byte) ([][]byte, error) {
 // mtu of 1 (H.264) or 4, and of a unit longer than a packet where no fragment has room for data. Its errors
 // are those of Packetize.
 func (p *Packetizer) PacketizeUnit(mtu uint16, unit []byte) ([][]byte, error) {
-	return p.copies(ofUnit, mtu, unit)
+	return p.copies(C.OF_UNIT, mtu, unit)
 }
 
 // PacketizeUnits answers the RTP payloads of one access unit in Annex B form, as an encoder gives it: every
-// unit, in order and as it is, whatever its kind, so several sets of a kind and delimiters arrive too. By
-// PackTogether no sender that brings these units needs fewer packets (RFC 6184, 5.7.1; RFC 7798, 4.4.2; RFC 9328,
+// unit, in order and as it is, whatever its kind (but see SetDelimiters), so several sets of a kind and
+// delimiters arrive too. By PackTogether no sender that brings these units needs fewer packets (RFC 6184, 5.7.1; RFC 7798, 4.4.2; RFC 9328,
 // 4.3.2). Sets that wait for Packetize stay: one stream uses the one call or the other.
 //
 // Where a unit can't go nothing is sent, and an Error names the first, First by its place and Second by its
 // length: ErrUnitWithoutHeader, ErrUnitForbidden, ErrUnitOfPacketType or ErrUnitTooLong. The other errors are
 // those of Packetize.
 func (p *Packetizer) PacketizeUnits(mtu uint16, accessUnit []byte) ([][]byte, error) {
-	return p.copies(ofUnits, mtu, accessUnit)
+	return p.copies(C.OF_UNITS, mtu, accessUnit)
 }
 
 // PacketizeInto makes the packets of Packetize in the place of those in into, each behind its headroom. It
@@ -222,33 +248,33 @@ func (p *Packetizer) PacketizeUnits(mtu uint16, accessUnit []byte) ([][]byte, er
 func (p *Packetizer) PacketizeInto(mtu uint16, payload []byte, into *Packets) error {
 	p.mu.Lock()
 	defer p.mu.Unlock()
-	return p.makes(ofPayload, mtu, payload, into)
+	return p.makes(C.OF_PAYLOAD, mtu, payload, into)
 }
 
 // PacketizeUnitInto makes the packets of PacketizeUnit in the place of those in into, as PacketizeInto does.
 func (p *Packetizer) PacketizeUnitInto(mtu uint16, unit []byte, into *Packets) error {
 	p.mu.Lock()
 	defer p.mu.Unlock()
-	return p.makes(ofUnit, mtu, unit, into)
+	return p.makes(C.OF_UNIT, mtu, unit, into)
 }
 
 // PacketizeUnitsInto makes the packets of PacketizeUnits in the place of those in into, as PacketizeInto does.
 func (p *Packetizer) PacketizeUnitsInto(mtu uint16, accessUnit []byte, into *Packets) error {
 	p.mu.Lock()
 	defer p.mu.Unlock()
-	return p.makes(ofUnits, mtu, accessUnit, into)
+	return p.makes(C.OF_UNITS, mtu, accessUnit, into)
 }
 
 // PacketsSize tells how many packets PacketizeInto would make of a payload, and how many bytes they take with
 // so much headroom before each. The packetizer is left as it is. It panics where NewPackets does; its errors are
 // those of Packetize.
 func (p *Packetizer) PacketsSize(mtu uint16, payload []byte, headroom int) (count, size int, err error) {
-	return p.sizes(ofPayload, mtu, payload, headroom)
+	return p.sizes(C.OF_PAYLOAD, mtu, payload, headroom)
 }
 
 // UnitsSize tells the same of PacketizeUnitsInto; its errors are those of PacketizeUnits.
 func (p *Packetizer) UnitsSize(mtu uint16, accessUnit []byte, headroom int) (count, size int, err error) {
-	return p.sizes(ofUnits, mtu, accessUnit, headroom)
+	return p.sizes(C.OF_UNITS, mtu, accessUnit, headroom)
 }
 
 func (p *Packetizer) sizes(of C.int, mtu uint16, bytes []byte, headroom int) (count, size int, err error) {

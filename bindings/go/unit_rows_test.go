@@ -35,7 +35,7 @@ func TestUnitRows(t *testing.T) {
 		sendsRow(t, row, columns)
 		rows++
 	}
-	if rows != 44 {
+	if rows != 54 {
 		t.Errorf("%d rows", rows)
 	}
 }
@@ -54,7 +54,9 @@ func sendsRow(t *testing.T, row string, columns []string) {
 	if strings.HasSuffix(columns[0], " donl") {
 		done(t, p.SetDONL(true))
 	}
-	done(t, p.SetPacking(packings[columns[1]]))
+	packing, _, without := strings.Cut(columns[1], " without delimiters")
+	done(t, p.SetPacking(packings[packing]))
+	done(t, p.SetDelimiters(!without))
 	other, err := p.Clone()
 	done(t, err)
 	into := h26x.NewPackets(2)
@@ -99,8 +101,14 @@ func TestPackings(t *testing.T) {
 	if !errors.Is(err, h26x.ErrUnitForbidden) || err.Error() != "h26x: the unit has its forbidden bit set (unit 1, 2 bytes)" {
 		t.Error(err)
 	}
+	names := fmt.Sprint(h26x.PackTogether, h26x.PackBeforeSlices, h26x.PackApart, h26x.PackSingle, h26x.Packing(4))
+	if names != "PackTogether PackBeforeSlices PackApart PackSingle Packing(4)" {
+		t.Error(names)
+	}
 	done(t, p.Close())
-	if err := p.SetPacking(h26x.PackApart); !errors.Is(err, h26x.ErrClosed) {
-		t.Error(err)
+	for _, err := range []error{p.SetPacking(h26x.PackApart), p.SetDelimiters(true)} {
+		if !errors.Is(err, h26x.ErrClosed) {
+			t.Error(err)
+		}
 	}
 }

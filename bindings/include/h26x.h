@@ -262,11 +262,18 @@ enum h26x_packing {
  * H26X_TOGETHER at first. Any other is H26X_OUT_OF_RANGE; H26X_WRONG_END. */
 H26X_API uint32_t h26x_packetizer_set_packing(h26x_packetizer *p, uint32_t packing);
 
+/** Sets whether h26x_packetize_units and its like send access unit delimiters and filler data, of which a decoder needs
+ * nothing (types 9 and 12 of H.264, 35 and 38 of H.265, 20 and 25 of H.266). They do at first; else an access unit is
+ * sent as if these units weren't there, but that a unit that can't go is told by its place among all. A stream of H.266
+ * of several layers has to have its delimiters (H.266, 7.4.2.4). H26X_WRONG_END. */
+H26X_API uint32_t h26x_packetizer_set_delimiters(h26x_packetizer *p, bool delimiters);
+
 /** Makes the packets of one access unit in Annex B form, as an encoder gives it: every unit, in order and as it is,
- * whatever its kind. Units are cut as h26x_next_unit does; an empty text has none. Those that may share a packet go
- * together where they fit (RFC 6184, 5.7.1; RFC 7798, 4.4.2; RFC 9328, 4.3.2), one that is longer than a packet goes
- * in fragments, and no sender that brings these units needs fewer packets than by H26X_TOGETHER. So several sets of a
- * kind, sets that come alone and delimiters all arrive. `mtu` and the largest packet size count as in h26x_packetize,
+ * whatever its kind, but for delimiters and filler data where h26x_packetizer_set_delimiters says so. Units are cut as
+ * h26x_next_unit does; an empty text has none. Those that may share a packet go together where they fit (RFC 6184,
+ * 5.7.1; RFC 7798, 4.4.2; RFC 9328, 4.3.2), one that is longer than a packet goes in fragments, and no sender that
+ * brings these units needs fewer packets than by H26X_TOGETHER. So several sets of a kind, sets that come alone and
+ * delimiters all arrive. `mtu` and the largest packet size count as in h26x_packetize,
  * and with decoding order numbers each unit takes one. Sets that wait for h26x_packetize stay: one stream uses the
  * one call or the other. An aggregate has the header of its units, whatever h26x_packetizer_set_lowest_header set.
  *
@@ -686,6 +693,12 @@ H26X_API bool h26x_is_partition_tail(uint32_t codec, bool marker, const uint8_t 
 /** Whether a packet without numbers is known to hold a unit of a keyframe, or to be the first fragment of one; false
  * for an unknown codec. */
 H26X_API bool h26x_detect_keyframe(uint32_t codec, const uint8_t *packet, size_t packet_len);
+
+/** Whether a packet begins a unit of a keyframe: it holds one, alone or in an aggregate, or is its first fragment.
+ * `numbers`: whether packets bear decoding order numbers; those of H.264 don't. So a forwarder finds where a keyframe begins, whichever units
+ * share packets. Key units are slices of IDR pictures of H.264, of IRAP pictures of H.265, of IDR and CRA pictures of
+ * H.266. False for a packet that a depacketizer refuses, and for an unknown codec. */
+H26X_API bool h26x_begins_keyframe(uint32_t codec, bool numbers, const uint8_t *packet, size_t packet_len);
 
 /** Whether an H.264 packet is known to hold a unit of this type, or to be the first fragment of one. */
 H26X_API bool h26x_detect_h264_nalu(const uint8_t *packet, size_t packet_len, uint8_t type);

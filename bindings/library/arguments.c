@@ -40,6 +40,7 @@ PROVED(h265_paci_packet);
 PROVED(is_partition_head);
 PROVED(is_partition_tail);
 PROVED(detect_keyframe);
+PROVED(begins_keyframe);
 PROVED(detect_h264_nalu);
 PROVED(set_lowest_header);
 PROVED(next_unit);
@@ -355,6 +356,11 @@ bool h26x_is_partition_tail(uint32_t codec, bool marker, const uint8_t *packet, 
 bool h26x_detect_keyframe(uint32_t codec, const uint8_t *packet, size_t packet_len)
 {
     return proved_detect_keyframe(codec, BYTES(packet, packet_len));
+}
+
+bool h26x_begins_keyframe(uint32_t codec, bool numbers, const uint8_t *packet, size_t packet_len)
+{
+    return proved_begins_keyframe(codec, numbers, BYTES(packet, packet_len));
 }
 
 bool h26x_detect_h264_nalu(const uint8_t *packet, size_t packet_len, uint8_t type)

@@ -8,6 +8,7 @@ from h26x import (
     Codec,
     Depacketizer,
     UnknownCodec,
+    begins_keyframe,
     detect_h264_nalu,
     detect_keyframe,
     is_partition_head,
@@ -66,6 +67,29 @@ def test_tails(codec: Codec, marker: bool, packet: str, is_tail: bool) -> None:
 def test_keyframes(codec: Codec, keyframes: str, others: str) -> None:
     assert all(detect_keyframe(codec, packet) for packet in many(keyframes))
     assert not any(detect_keyframe(codec, packet) for packet in [b"", *many(others)])
+
+
+@pytest.mark.parametrize(
+    "codec, keyframes, others",
+    [
+        (H264, "7c850000|18 0002 67aa 0002 65bb", "7c050000|18 0002 67aa 0002 41bb"),
+        (
+            H265,
+            "62019307aaaa|6001 0007 0003 0201aa 00 0003 2601af",
+            "6001 0007 0003 0201aa 26 0003 0201af|6001 0003 0201aa 0003 2601af",
+        ),
+        (
+            H266,
+            "00e98707aaaa|00e1 0007 0003 0079aa 0003 0041af",
+            "00e1 0007 0003 0079aa 0003 0001af|00e1 0003 0079aa 0003 0041af",
+        ),
+    ],
+)
+def test_keyframes_that_begin(codec: Codec, keyframes: str, others: str) -> None:
+    """In aggregates with numbers too: RFC 7798, 4.4.2 has a DONL and a DOND, RFC 9328, 4.3.2 a DONL."""
+    assert all(begins_keyframe(codec, packet, donl=True) for packet in many(keyframes))
+    assert not any(begins_keyframe(codec, packet, donl=True) for packet in [b"", *many(others)])
+    assert begins_keyframe(H265, some("6001 0003 0201aa 0003 2601af"))
 
 
 def test_types_of_h264() -> None:
@@ -170,6 +194,7 @@ def test_unknown_codecs() -> None:
         lambda: is_partition_head(0, b"\1\0"),
         lambda: is_partition_tail(263, True, b"\1\0"),
         lambda: detect_keyframe(2**32 + 264, b"\x65"),
+        lambda: begins_keyframe(267, b"\x65"),
         lambda: units(1, b"\x65"),
         lambda: is_plain_unit(0, b"\x65"),
         lambda: set_lowest_header(7, bytearray(some(SETS))),

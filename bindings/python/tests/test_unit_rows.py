@@ -16,7 +16,9 @@ def test_units(row: str) -> None:
     codec, packing, mtu, units, wanted = (column.strip() for column in row.split("|"))
     text = b"".join(b"\0\0\0\1" + bytes.fromhex(unit) for unit in units.split())
     packetizer = Packetizer(Codec[codec[:4].upper()], donl=codec.endswith(" donl"))
+    packing, without, _ = packing.partition(" without delimiters")
     packetizer.packing = Packing[packing.upper().replace(" ", "_")]
+    packetizer.delimiters = not without
     other, into, limit = packetizer.copy(), bytearray(200), int(mtu)
     if wanted.startswith("!"):
         for call in (
@@ -40,16 +42,18 @@ def test_units(row: str) -> None:
 
 def test_rows() -> None:
     """The text has them."""
-    assert len(ROWS) == 44
+    assert len(ROWS) == 54
 
 
 def test_packings() -> None:
     """A number that no packing has changes nothing."""
     packetizer = Packetizer(Codec.H264)
-    assert packetizer.packing is Packing.TOGETHER
+    assert packetizer.packing is Packing.TOGETHER and packetizer.delimiters
     packetizer.packing = Packing.APART
     with pytest.raises(OutOfRange):
         packetizer.packing = 4  # type: ignore[assignment]
-    assert packetizer.packing is packetizer.copy().packing is Packing.APART
+    packetizer.delimiters = False
+    other = packetizer.copy()
+    assert packetizer.packing is other.packing is Packing.APART and not other.delimiters
     with pytest.raises(UnitForbidden, match=r"\(unit 1, 2 bytes\)"):
         packetizer.packetize_units(1200, bytes.fromhex("000001 6588 000001 e588"))

@@ -7,6 +7,7 @@ use Rattle.h264_payload.specs.H264 as h264
 use Rattle.h265_payload.specs.H265 as h265
 use Rattle.h265_payload.specs.LowestHeader.{with_lowest_header}
 use Rattle.h266_payload.specs.H266 as h266
+use Rattle.h26x_codec.specs.Keyframe.{begins_key_unit}
 use Rattle.h26x_codec.specs.declared.codec.Codec.{Codec}
 use Rattle.h26x_codec.specs.declared.codec.Codec.TheVariants as c
 
@@ -32,6 +33,11 @@ is_key_of None packet = false
 is_key_of (Some c.H264) packet = h264.detects 5 packet
 is_key_of (Some c.H265) packet = two_byte_detects h265.h265_header packet
 is_key_of (Some c.H266) packet = two_byte_detects h266.h266_header packet
+
+-- whether it begins a unit of a keyframe, where packets bear numbers or none
+abbrev pub begins_key_of : Option Codec → Bool → List ℕ → Bool
+begins_key_of None numbers packet = false
+begins_key_of (Some codec) numbers packet = begins_key_unit codec numbers packet
 
 -- a packet of H.265 with the header of its units, where it is an aggregate; that of H.266 has it, and
 -- that of H.264 has neither layers nor temporal ids

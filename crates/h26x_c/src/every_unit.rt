@@ -1,11 +1,12 @@
-//! The calls of a packetizer that leave no unit out.
+//! The calls of a packetizer where every unit goes.
 
 ghost use Rattle.std.specs.Prelude.{◌≡◌, ◌≢◌, ◌⊎◌, Some, None, length};
+ghost use Rattle.std.specs.Option.{option_map};
 ghost use Rattle.h26x_packetizer.specs.EveryView.{after_units};
 ghost use Rattle.h26x_codes.specs.Codes.{ok, no_room, out_of_memory, out_of_range, wrong_end, refused_unit_numbers, packing_with_number};
 ghost use Rattle.h26x_c.specs.Endpoints.{GivesOrOutOfMemory, HasPacketizer, OnceDone, WherePacketizer};
 ghost use Rattle.h26x_handles.specs.PlacementAnswer.{AreCounted, IsPlacementAnswer};
-ghost use Rattle.h26x_endpoint.specs.EndpointStates.{endpoint_codec, endpoint_every_packets, endpoint_lowest_header, endpoint_packetizer_state, endpoint_packets, endpoint_packing, endpoint_refusal};
+ghost use Rattle.h26x_endpoint.specs.EndpointStates.{endpoint_codec, endpoint_every_packets, endpoint_packetizer_state, endpoint_packets, endpoint_refusal, endpoint_settings, endpoint_units_sent};
 
 use crate::const_handle::ConstHandle;
 use crate::handle::Handle;
@@ -13,6 +14,7 @@ use h26x_codes::code::{
     OK, OUT_OF_RANGE, Refusal, WRONG_END, code_of_placement, code_of_units, packing_of,
 };
 use h26x_endpoint::endpoint::Endpoint;
+use h26x_handles::settings::SendingSettings;
 use h26x_packetizer::{Packing, RefusedUnit};
 use std::alloc::Global;
 
@@ -24,11 +26,11 @@ pub extern "C" fn h26x_packetizer_set_packing(p: &mut Handle, packing: u32) -> u
         (λ it. packing_with_number packing ≡ None → result ≡ out_of_range) }
     ensures set { (asked : Packing) → WherePacketizer p.old.value
         (λ it. packing_with_number packing ≡ Some asked →
-        (result ≡ ok) × (endpoint_packing p.new.value ≡ Some asked)) }
+        (result ≡ ok) × (endpoint_settings p.new.value ≡ option_map
+        (λ (s : SendingSettings). record s { packing = asked }) (endpoint_settings p.old.value))) }
     ensures state { endpoint_packetizer_state p.new.value ≡ endpoint_packetizer_state p.old.value }
     ensures codec { endpoint_codec p.new.value ≡ endpoint_codec p.old.value }
     ensures packets { endpoint_packets p.new.value ≡ endpoint_packets p.old.value }
-    ensures lowest { endpoint_lowest_header p.new.value ≡ endpoint_lowest_header p.old.value }
     ensures kept { result ≢ ok → p.new.value ≡ p.old.value }
 {
     let Endpoint::Sending(it) = p.get_mut() else {
@@ -36,15 +38,43 @@ pub extern "C" fn h26x_packetizer_set_packing(p: &mut Handle, packing: u32) -> u
     };
     match packing_of(packing) {
         Some(packing) => {
-            it.with_packing(packing);
+            it.set(SendingSettings {
+                packing,
+                ..it.settings()
+            });
             OK
         }
         None => OUT_OF_RANGE,
     }
 }
 
-/// Makes the packets of the units of an access unit in Annex B form, none of which is left out, which
-/// take the place of the last call's; the sets that wait stay. The first unit that can't go is named.
+/// Sets whether access unit delimiters and filler data go where every unit goes.
+#[unsafe(no_mangle)]
+pub extern "C" fn h26x_packetizer_set_delimiters(p: &mut Handle, delimiters: bool) -> u32
+    ensures wrong { endpoint_packetizer_state p.old.value ≡ None → result ≡ wrong_end }
+    ensures set { WherePacketizer p.old.value (λ it. (result ≡ ok) × (endpoint_settings p.new.value
+        ≡ option_map (λ (s : SendingSettings). record s { delimiters = delimiters })
+        (endpoint_settings p.old.value))) }
+    ensures state { endpoint_packetizer_state p.new.value ≡ endpoint_packetizer_state p.old.value }
+    ensures codec { endpoint_codec p.new.value ≡ endpoint_codec p.old.value }
+    ensures packets { endpoint_packets p.new.value ≡ endpoint_packets p.old.value }
+    ensures kept { result ≢ ok → p.new.value ≡ p.old.value }
+{
+    match p.get_mut() {
+        Endpoint::Sending(it) => {
+            it.set(SendingSettings {
+                delimiters,
+                ..it.settings()
+            });
+            OK
+        }
+        _ => WRONG_END,
+    }
+}
+
+/// Makes the packets of the units of an access unit in Annex B form, of which none is left out but
+/// delimiters and filler where that is set; they take the place of the last call's, and the sets that
+/// wait stay. The first unit that can't go is named.
 #[unsafe(no_mangle)]
 pub extern "C" fn h26x_packetize_units(
     alloc: Global,
@@ -65,10 +95,10 @@ pub extern "C" fn h26x_packetize_units(
         (λ it. endpoint_packets p.new.value
         ≡ endpoint_every_packets p.old.value mtu access_unit.now) }
     ensures after { OnceDone p.old.value result
-        (λ it. HasPacketizer p.new.value (after_units it (it.format.units access_unit.now))) }
+        (λ it. HasPacketizer p.new.value
+        (after_units it (endpoint_units_sent p.old.value access_unit.now))) }
     ensures codec { endpoint_codec p.new.value ≡ endpoint_codec p.old.value }
-    ensures lowest { endpoint_lowest_header p.new.value ≡ endpoint_lowest_header p.old.value }
-    ensures packing { endpoint_packing p.new.value ≡ endpoint_packing p.old.value }
+    ensures settings { endpoint_settings p.new.value ≡ endpoint_settings p.old.value }
     ensures kept { result ≢ ok → p.new.value ≡ p.old.value }
     ensures kept_why { result ≡ ok → why.new ≡ why.old }
     ensures count { count.new ≡ length (endpoint_packets p.new.value) }
@@ -155,10 +185,10 @@ pub extern "C" fn h26x_packetize_units_into(
         endpoint_refusal p.old.value mtu access_unit.now ≡ Some unit →
         GivesOrOutOfMemory result (why.new.first, why.new.second) (refused_unit_numbers unit) }
     ensures after { OnceDone p.old.value result
-        (λ it. HasPacketizer p.new.value (after_units it (it.format.units access_unit.now))) }
+        (λ it. HasPacketizer p.new.value
+        (after_units it (endpoint_units_sent p.old.value access_unit.now))) }
     ensures codec { endpoint_codec p.new.value ≡ endpoint_codec p.old.value }
-    ensures lowest { endpoint_lowest_header p.new.value ≡ endpoint_lowest_header p.old.value }
-    ensures packing { endpoint_packing p.new.value ≡ endpoint_packing p.old.value }
+    ensures settings { endpoint_settings p.new.value ≡ endpoint_settings p.old.value }
     ensures packets { endpoint_packets p.new.value ≡ endpoint_packets p.old.value }
     ensures kept { result ≢ ok → p.new.value ≡ p.old.value }
     ensures kept_to { result ≢ ok → to.new ≡ to.old }

@@ -4,7 +4,7 @@ ghost use Rattle.std.specs.Prelude.{◌≡◌};
 ghost use Rattle.h26x_core.specs.Hint.{size_hint};
 ghost use Rattle.h264_payload.specs.H264.{detects};
 ghost use Rattle.h26x_codes.specs.Codes.{codec_with_number};
-ghost use Rattle.h26x_c.specs.Packets.{is_head_of, is_tail_of, is_key_of, with_units_header};
+ghost use Rattle.h26x_c.specs.Packets.{is_head_of, is_tail_of, is_key_of, begins_key_of, with_units_header};
 
 use h26x_codec::Codec;
 use h26x_codes::code::codec_of;
@@ -55,6 +55,18 @@ pub extern "C" fn h26x_detect_keyframe(codec: u32, packet: &[u8]) -> bool
         Some(Codec::H264) => detect_h264_keyframe(packet),
         Some(Codec::H265) => detect_h265_keyframe(packet),
         Some(Codec::H266) => detect_h266_keyframe(packet),
+        None => false,
+    }
+}
+
+/// Whether a packet begins a unit of a keyframe. `numbers`: whether packets bear decoding order
+/// numbers.
+#[unsafe(no_mangle)]
+pub extern "C" fn h26x_begins_keyframe(codec: u32, numbers: bool, packet: &[u8]) -> bool
+    ensures { result ≡ begins_key_of (codec_with_number codec) numbers packet.now }
+{
+    match codec_of(codec) {
+        Some(codec) => codec.begins_keyframe(numbers, packet),
         None => false,
     }
 }

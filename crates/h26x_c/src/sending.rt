@@ -10,7 +10,9 @@ ghost use Rattle.h26x_codes.specs.Copies.{with_front, nth_packet, AreCopied};
 ghost use Rattle.h26x_c.specs.Endpoints.{Makes, HasPacketizer, WherePacketizer, OnceDone, WhereDonl};
 ghost use Rattle.h26x_handles.specs.PlacementAnswer.{AreCounted, IsPlacementAnswer};
 ghost use Rattle.h26x_handles.specs.States.{headed_packets, state_with_donl};
-ghost use Rattle.h26x_endpoint.specs.EndpointStates.{endpoint_packetizer_state, endpoint_packets, endpoint_codec, endpoint_headers, endpoint_lowest_header, place_packetizer_state, place_packets, place_lowest_header, place_packing, endpoint_packing, endpoint_without_output};
+ghost use Rattle.std.specs.Option.{option_map};
+ghost use Rattle.h26x_handles.specs.Settings.{first_settings};
+ghost use Rattle.h26x_endpoint.specs.EndpointStates.{endpoint_packetizer_state, endpoint_packets, endpoint_codec, endpoint_headers, endpoint_settings, place_packetizer_state, place_packets, place_settings, endpoint_without_output};
 
 use crate::const_handle::ConstHandle;
 use crate::handle::Handle;
@@ -22,7 +24,7 @@ use h26x_codes::code::{
 use h26x_codes::copy::copy_where_room;
 use h26x_endpoint::endpoint::Endpoint;
 use h26x_handles::sending::SendingEndpoint;
-use h26x_packetizer::Packing;
+use h26x_handles::settings::SendingSettings;
 use std::alloc::Global;
 
 /// Makes a packetizer for which nothing waits.
@@ -39,8 +41,7 @@ pub extern "C" fn h26x_packetizer_new(
     ensures made { Makes (codec_or_code codec numbers) result
         (place_packetizer_state made.new.value) (λ c. fresh_packetizer_state (codec_format c numbers)) }
     ensures none { result ≡ ok → place_packets made.new.value ≡ [] }
-    ensures off { result ≡ ok → place_lowest_header made.new.value ≡ false }
-    ensures together { result ≡ ok → place_packing made.new.value ≡ Some Packing.Together }
+    ensures settings { result ≡ ok → place_settings made.new.value ≡ Some first_settings }
     ensures kept { result ≢ ok → made.new ≡ made.old }
 {
     match codec_wanted(codec, numbers) {
@@ -87,8 +88,7 @@ pub extern "C" fn h26x_packetizer_set_numbers(p: &mut Handle, numbers: bool) -> 
     ensures set { WhereDonl p.old.value
         (λ c it. (result ≡ ok) × HasPacketizer p.new.value (state_with_donl c numbers it)) }
     ensures packets { endpoint_packets p.new.value ≡ endpoint_packets p.old.value }
-    ensures lowest { endpoint_lowest_header p.new.value ≡ endpoint_lowest_header p.old.value }
-    ensures packing { endpoint_packing p.new.value ≡ endpoint_packing p.old.value }
+    ensures settings { endpoint_settings p.new.value ≡ endpoint_settings p.old.value }
     ensures kept { result ≢ ok → p.new.value ≡ p.old.value }
 {
     match p.get_mut() {
@@ -115,8 +115,7 @@ pub extern "C" fn h26x_packetizer_set_max_size(p: &mut Handle, bytes: u16) -> u3
         (λ c it. 4 ≤ bytes → (result ≡ ok)
         × HasPacketizer p.new.value (record it { max_packet_size = bytes })) }
     ensures packets { endpoint_packets p.new.value ≡ endpoint_packets p.old.value }
-    ensures lowest { endpoint_lowest_header p.new.value ≡ endpoint_lowest_header p.old.value }
-    ensures packing { endpoint_packing p.new.value ≡ endpoint_packing p.old.value }
+    ensures settings { endpoint_settings p.new.value ≡ endpoint_settings p.old.value }
     ensures kept { result ≢ ok → p.new.value ≡ p.old.value }
 {
     match p.get_mut() {
@@ -142,10 +141,11 @@ pub extern "C" fn h26x_packetizer_set_lowest_header(p: &mut Handle, lowest: bool
     ensures none { WherePacketizer p.old.value
         (λ it. may_have_donl (endpoint_codec p.old.value) ≡ false → result ≡ not_of_this_codec) }
     ensures set { WhereDonl p.old.value
-        (λ c it. (result ≡ ok) × (endpoint_lowest_header p.new.value ≡ lowest)) }
+        (λ c it. (result ≡ ok) × (endpoint_settings p.new.value ≡ option_map
+        (λ (s : SendingSettings). record s { lowest_header = lowest })
+        (endpoint_settings p.old.value))) }
     ensures state { endpoint_packetizer_state p.new.value ≡ endpoint_packetizer_state p.old.value }
     ensures codec { endpoint_codec p.new.value ≡ endpoint_codec p.old.value }
-    ensures packing { endpoint_packing p.new.value ≡ endpoint_packing p.old.value }
     ensures packets { endpoint_packets p.new.value ≡ endpoint_packets p.old.value }
     ensures kept { result ≢ ok → p.new.value ≡ p.old.value }
 {
@@ -154,7 +154,10 @@ pub extern "C" fn h26x_packetizer_set_lowest_header(p: &mut Handle, lowest: bool
             if !may_have_donl(it.packetizer.codec()) {
                 return NOT_OF_THIS_CODEC;
             }
-            it.with_lowest_header(lowest);
+            it.set(SendingSettings {
+                lowest_header: lowest,
+                ..it.settings()
+            });
             OK
         }
         _ => WRONG_END,
@@ -180,8 +183,7 @@ pub extern "C" fn h26x_packetize(
     ensures after { OnceDone p.old.value result
         (λ it. HasPacketizer p.new.value (after_payload it mtu payload.now)) }
     ensures codec { endpoint_codec p.new.value ≡ endpoint_codec p.old.value }
-    ensures lowest { endpoint_lowest_header p.new.value ≡ endpoint_lowest_header p.old.value }
-    ensures packing { endpoint_packing p.new.value ≡ endpoint_packing p.old.value }
+    ensures settings { endpoint_settings p.new.value ≡ endpoint_settings p.old.value }
     ensures kept { result ≢ ok → p.new.value ≡ p.old.value }
     ensures count { count.new ≡ length (endpoint_packets p.new.value) }
 {
@@ -218,8 +220,7 @@ pub extern "C" fn h26x_packetize_unit(
     ensures after { OnceDone p.old.value result
         (λ it. HasPacketizer p.new.value (after_one_unit it mtu unit.now)) }
     ensures codec { endpoint_codec p.new.value ≡ endpoint_codec p.old.value }
-    ensures lowest { endpoint_lowest_header p.new.value ≡ endpoint_lowest_header p.old.value }
-    ensures packing { endpoint_packing p.new.value ≡ endpoint_packing p.old.value }
+    ensures settings { endpoint_settings p.new.value ≡ endpoint_settings p.old.value }
     ensures kept { result ≢ ok → p.new.value ≡ p.old.value }
     ensures count { count.new ≡ length (endpoint_packets p.new.value) }
 
@@ -301,8 +302,7 @@ pub extern "C" fn h26x_packetize_into(
     ensures after { OnceDone p.old.value result
         (λ it. HasPacketizer p.new.value (after_payload it mtu payload.now)) }
     ensures codec { endpoint_codec p.new.value ≡ endpoint_codec p.old.value }
-    ensures lowest { endpoint_lowest_header p.new.value ≡ endpoint_lowest_header p.old.value }
-    ensures packing { endpoint_packing p.new.value ≡ endpoint_packing p.old.value }
+    ensures settings { endpoint_settings p.new.value ≡ endpoint_settings p.old.value }
     ensures packets { endpoint_packets p.new.value ≡ endpoint_packets p.old.value }
     ensures kept { result ≢ ok → p.new.value ≡ p.old.value }
     ensures kept_to { result ≢ ok → to.new ≡ to.old }
@@ -341,8 +341,7 @@ pub extern "C" fn h26x_packetize_unit_into(
     ensures after { OnceDone p.old.value result
         (λ it. HasPacketizer p.new.value (after_one_unit it mtu unit.now)) }
     ensures codec { endpoint_codec p.new.value ≡ endpoint_codec p.old.value }
-    ensures lowest { endpoint_lowest_header p.new.value ≡ endpoint_lowest_header p.old.value }
-    ensures packing { endpoint_packing p.new.value ≡ endpoint_packing p.old.value }
+    ensures settings { endpoint_settings p.new.value ≡ endpoint_settings p.old.value }
     ensures packets { endpoint_packets p.new.value ≡ endpoint_packets p.old.value }
     ensures kept { result ≢ ok → p.new.value ≡ p.old.value }
     ensures kept_to { result ≢ ok → to.new ≡ to.old }

@@ -12,7 +12,9 @@ mod any_packetizer;
 mod any_payload_depacketizer;
 mod cases;
 mod codec;
+mod every_unit;
 pub mod formats;
+mod keyframe;
 pub mod laws;
 mod plain;
 
@@ -20,6 +22,7 @@ pub use any_depacketizer::AnyDepacketizer;
 pub use any_packetizer::AnyPacketizer;
 pub use any_payload_depacketizer::AnyPayloadDepacketizer;
 pub use codec::Codec;
+pub use every_unit::{refused_among_all, sent_units};
 pub use h26x_packetizer::{
     BufferMemory, BufferPackets, EveryUnitError, PacketBuffer, Packing, RefusedUnit, WhyRefused,
 };

@@ -12,9 +12,9 @@ use Rattle.h26x_codes.specs.Codes.{extra_with_number}
 use Rattle.h26x_sdp_handles.specs.Sdp.{sdp_codec}
 use Rattle.h26x_endpoint.specs.declared.endpoint.Endpoint.{Endpoint}
 use Rattle.h26x_endpoint.specs.declared.endpoint.Endpoint.TheVariants as e
-use Rattle.h26x_packetizer.specs.declared.packing.Packing.{Packing}
+use Rattle.h26x_handles.specs.declared.settings.SendingSettings.{SendingSettings}
 use Rattle.h26x_packetizer.specs.declared.refusal.RefusedUnit.{RefusedUnit}
-use Rattle.h26x_handles.specs.States.{sending_every_packets, sending_refusal, told_depacketizer_state, after_told_packet, headers_asked, receiver_at_work, after_receiver_packet, receiver_after_skip, receiver_run_len, fresh_receiver}
+use Rattle.h26x_handles.specs.States.{sending_units, sending_every_packets, sending_refusal, told_depacketizer_state, after_told_packet, headers_asked, receiver_at_work, after_receiver_packet, receiver_after_skip, receiver_run_len, fresh_receiver}
 use Rattle.h26x_handles.specs.UnitsState.{UnitsState, units_deadline, units_missing}
 use Rattle.h26x_handles.specs.AccessUnits.{units_state_of}
 use Rattle.h265_packets.specs.declared.payload.H265Payload.{H265Payload}
@@ -30,17 +30,17 @@ abbrev pub endpoint_headers : Endpoint → Option Bool
 endpoint_headers (e.Sending it) = headers_asked it
 endpoint_headers it = None
 
--- whether that is asked for
-abbrev pub endpoint_lowest_header : Endpoint → Bool
-endpoint_lowest_header (e.Sending it) = it.lowest_header
-endpoint_lowest_header it = false
+-- its settings
+abbrev pub endpoint_settings : Endpoint → Option SendingSettings
+endpoint_settings (e.Sending it) = Some it.settings
+endpoint_settings it = None
 
--- which units of an access unit share packets there
-abbrev pub endpoint_packing : Endpoint → Option Packing
-endpoint_packing (e.Sending it) = Some it.packing
-endpoint_packing it = None
+-- the units of an access unit in Annex B form that it sends where every unit goes
+abbrev pub endpoint_units_sent : Endpoint → List ℕ → List (List ℕ)
+endpoint_units_sent (e.Sending it) access_unit = sending_units it access_unit
+endpoint_units_sent it access_unit = []
 
--- the packets that it makes of the units of an access unit, where none is left out
+-- the packets that it makes of them
 abbrev pub endpoint_every_packets : Endpoint → ℕ → List ℕ → List (List ℕ)
 endpoint_every_packets (e.Sending it) mtu access_unit = sending_every_packets it mtu access_unit
 endpoint_every_packets it mtu access_unit = []
@@ -149,13 +149,9 @@ abbrev pub place_packets : Option Endpoint → List (List ℕ)
 place_packets None = []
 place_packets (Some it) = endpoint_packets it
 
-abbrev pub place_lowest_header : Option Endpoint → Bool
-place_lowest_header None = false
-place_lowest_header (Some it) = endpoint_lowest_header it
-
-abbrev pub place_packing : Option Endpoint → Option Packing
-place_packing None = None
-place_packing (Some it) = endpoint_packing it
+abbrev pub place_settings : Option Endpoint → Option SendingSettings
+place_settings None = None
+place_settings (Some it) = endpoint_settings it
 
 -- an endpoint whose depacketizer reads numbers or not
 abbrev pub endpoint_with_donl : Bool → Endpoint → Endpoint

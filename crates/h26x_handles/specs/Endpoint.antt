@@ -1,6 +1,6 @@
 -- What stands behind a handle.
 use Rattle.std.specs.Prelude.{ℕ, Bool, false, List, Option}
-use Rattle.h26x_packetizer.specs.declared.packing.Packing.{Packing}
+use Rattle.h26x_handles.specs.declared.settings.SendingSettings.{SendingSettings}
 use Rattle.h26x_codec.specs.declared.any_packetizer.AnyPacketizer.{AnyPacketizer}
 use Rattle.h26x_codec.specs.declared.any_packetizer.AnyPacketizer.TheVariants as s
 use Rattle.h26x_codec.specs.declared.any_depacketizer.AnyDepacketizer.{AnyDepacketizer}
@@ -11,13 +11,11 @@ has_numbers (s.H264 it) = false
 has_numbers (s.H265 it) = it.codec.has_donl
 has_numbers (s.H266 it) = it.codec.has_donl
 
--- a packetizer, the packets of its last call, whether aggregates of H.265 get the header of their
--- units, and which units of an access unit share packets
+-- a packetizer, the packets of its last call, and its settings
 pub record SendingEndpoint : Type 0 where
   pub packetizer : AnyPacketizer
   pub packets : List (List ℕ)
-  pub lowest_header : Bool
-  pub packing : Packing
+  pub settings : SendingSettings
 
 -- a depacketizer, and what its last accepted packet completed and had no room for
 pub record ReceivingEndpoint : Type 0 where

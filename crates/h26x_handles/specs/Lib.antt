@@ -1,4 +1,5 @@
 pub mod Headers
+pub mod Settings
 pub mod Endpoint
 pub mod States
 pub mod Shown

@@ -5,6 +5,8 @@ use Rattle.h26x_model.specs.Send.PacketizerState.{PacketizerState, next_packets}
 use Rattle.h26x_model.specs.Receive.DepacketizerState.{DepacketizerState, Depacketization, depacketization, after_packets}
 use Rattle.h26x_codec.specs.Codec.{codec_format}
 use Rattle.h26x_codec.specs.declared.codec.Codec.{Codec}
+use Rattle.std.specs.Option.{option_map}
+use Rattle.h26x_codec.specs.SentUnits.{sent_units, refused_among_all}
 use Rattle.h26x_codec.specs.AnyPacketizer.{any_packetizer_state, any_packetizer_codec, any_every_packets, any_units_refusal}
 use Rattle.h26x_packetizer.specs.declared.refusal.RefusedUnit.{RefusedUnit}
 use Rattle.h26x_core.specs.declared.extra.CodecExtra.{CodecExtra}
@@ -49,26 +51,32 @@ sending_state it = any_packetizer_state it.packetizer
 
 -- where aggregates get the header of their units: whether packets bear decoding order numbers
 abbrev pub headers_asked : SendingEndpoint → Option Bool
-headers_asked it = headers_wanted it.lowest_header (any_packetizer_codec it.packetizer)
+headers_asked it = headers_wanted it.settings.lowest_header (any_packetizer_codec it.packetizer)
     (any_packetizer_state it.packetizer).format.has_donl
 
 -- the packets that it makes of a payload
 abbrev pub sending_packets : SendingEndpoint → ℕ → List ℕ → List (List ℕ)
 sending_packets it mtu payload = headed_packets (headers_asked it) (sending_state it) mtu payload
 
--- the units of an access unit in Annex B form
+-- the units of an access unit in Annex B form that it sends where every unit goes
 abbrev pub sending_units : SendingEndpoint → List ℕ → List (List ℕ)
-sending_units it access_unit = (sending_state it).format.units access_unit
+sending_units it access_unit =
+    sent_units it.settings.delimiters (any_packetizer_codec it.packetizer) access_unit
 
--- the packets that it makes of them, where none is left out
+-- the packets that it makes of them
 abbrev pub sending_every_packets : SendingEndpoint → ℕ → List ℕ → List (List ℕ)
-sending_every_packets it mtu access_unit = any_every_packets it.packing it.packetizer mtu
+sending_every_packets it mtu access_unit = any_every_packets it.settings.packing it.packetizer mtu
     (sending_units it access_unit)
+
+-- one of them that is refused, by its place among all units of the access unit
+abbrev pub sending_refused : SendingEndpoint → List ℕ → RefusedUnit → RefusedUnit
+sending_refused it access_unit unit =
+    refused_among_all it.settings.delimiters (any_packetizer_codec it.packetizer) access_unit unit
 
 -- the first of them that can't go
 abbrev pub sending_refusal : SendingEndpoint → ℕ → List ℕ → Option RefusedUnit
-sending_refusal it mtu access_unit = any_units_refusal it.packing it.packetizer mtu
-    (sending_units it access_unit)
+sending_refusal it mtu access_unit = option_map (sending_refused it access_unit)
+    (any_units_refusal it.settings.packing it.packetizer mtu (sending_units it access_unit))
 
 -- a receiver of packets with their sequence numbers before it takes one, with what was told so far
 abbrev pub receiver_at_work : SequencedEndpoint → CodecExtra → SequencedDepacketization

@@ -1,44 +1,51 @@
-//! Packets of the units of an access unit, none of which is left out.
+//! Packets of the units of an access unit, where every unit goes.
 
 ghost use Rattle.std.specs.Prelude.{◌≡◌, ◌⊎◌, false, Some, None, Err, IfOk, OnOk, OnErr};
 ghost use Rattle.h26x_packetizer.specs.EveryView.{after_units};
 ghost use Rattle.h26x_packetizer.specs.Group.{lent_units};
 ghost use Rattle.h26x_packetizer.specs.Placement.{IsPlacement, IsSizeOf, is_placed};
-ghost use Rattle.h26x_codec.specs.AnyPacketizer.{any_packetizer_codec, any_packetizer_state, IsBehindPlaced};
-ghost use Rattle.h26x_handles.specs.States.{sending_state, sending_units, sending_every_packets, sending_refusal};
+ghost use Rattle.h26x_codec.specs.AnyPacketizer.{any_packetizer_codec, IsBehindPlaced};
+ghost use Rattle.h26x_handles.specs.States.{sending_state, sending_units, sending_every_packets, sending_refused, sending_refusal};
 
 use crate::sending::SendingEndpoint;
-use h26x_codec::AnyPacketizer;
-use h26x_cut::{laws, units};
+use h26x_codec::{refused_among_all, sent_units};
 use h26x_packetizer::{EveryUnitError, PacketsSize, Placement, RefusedUnit};
 use std::alloc::{AllocError, Global};
 use std::mem;
 
-/// For how many units there is room at first: so many that few access units need more.
-const FIRST_UNITS: usize = 16;
-
-/// The units of an access unit in Annex B form, as slices of it.
-fn units_of<'a>(
-    alloc: Global,
-    packetizer: &AnyPacketizer,
-    access_unit: &'a [u8],
-) -> Result<Vec<&'a [u8]>, AllocError>
-    ensures { IfOk result (λ it. lent_units it.items
-        ≡ (any_packetizer_state packetizer.now).format.units access_unit.now) }
-{
-    laws::one_cutting();
-    let rule = packetizer.codec().zero_rule();
-    let mut found = Vec::with_capacity(alloc, FIRST_UNITS)?;
-    for unit in units(access_unit, rule) {
-        found.push(unit)?;
-    }
-    Ok(found)
-}
-
 impl SendingEndpoint {
-    /// Makes the packets of the units of an access unit in Annex B form, none of which is left out,
-    /// which take the place of the last call's. The first unit that can't go is named, and nothing is
-    /// sent then.
+    /// The units of an access unit in Annex B form that are sent, as slices of it.
+    fn sent_units<'a>(
+        &self,
+        alloc: Global,
+        access_unit: &'a [u8],
+    ) -> Result<Vec<&'a [u8]>, AllocError>
+        ensures { IfOk result (λ it. lent_units it.items ≡ sending_units self.now access_unit.now) }
+    {
+        let codec = self.packetizer.codec();
+        sent_units(alloc, codec, self.settings.delimiters, access_unit)
+    }
+
+    /// An error of sending them, a refused unit by its place among all units of the access unit.
+    fn refused_among_all(
+        &self,
+        alloc: Global,
+        access_unit: &[u8],
+        error: EveryUnitError,
+    ) -> EveryUnitError
+        ensures unit { (unit : RefusedUnit) → error ≡ EveryUnitError.Unit unit →
+            (result ≡ EveryUnitError.Unit (sending_refused self.now access_unit.now unit))
+            ⊎ (result ≡ EveryUnitError.OutOfMemory) }
+        ensures memory { error ≡ EveryUnitError.OutOfMemory →
+            result ≡ EveryUnitError.OutOfMemory }
+    {
+        let codec = self.packetizer.codec();
+        refused_among_all(alloc, codec, self.settings.delimiters, access_unit, error)
+    }
+
+    /// Makes the packets of the units of an access unit in Annex B form, of which none is left out but
+    /// delimiters and filler where the settings say so; they take the place of the last call's. The
+    /// first unit that can't go is named, and nothing is sent then.
     pub fn packetize_units(
         &mut self,
         alloc: Global,
@@ -51,8 +58,7 @@ impl SendingEndpoint {
             ≡ after_units (sending_state self.old) (sending_units self.old access_unit.now)) }
         ensures codec { any_packetizer_codec self.new.packetizer
             ≡ any_packetizer_codec self.old.packetizer }
-        ensures lowest { self.new.lowest_header ≡ self.old.lowest_header }
-        ensures packing { self.new.packing ≡ self.old.packing }
+        ensures settings { self.new.settings ≡ self.old.settings }
         ensures kept { OnErr result (self.new ≡ self.old) }
         ensures refused { (unit : RefusedUnit) →
             sending_refusal self.old mtu access_unit.now ≡ Some unit →
@@ -60,12 +66,19 @@ impl SendingEndpoint {
         ensures memory { sending_refusal self.old mtu access_unit.now ≡ None →
             OnErr result (result ≡ Err EveryUnitError.OutOfMemory) }
     {
-        let units = units_of(alloc, &self.packetizer, access_unit)?;
+        let units = self.sent_units(alloc, access_unit)?;
+        let packing = self.settings.packing;
         self.spare.clear();
-        self.packetizer
-            .packetize_units_into(self.packing, mtu, &units, &mut self.spare)?;
-        mem::swap(&mut self.packets, &mut self.spare);
-        Ok(())
+        match self
+            .packetizer
+            .packetize_units_into(packing, mtu, &units, &mut self.spare)
+        {
+            Ok(()) => {
+                mem::swap(&mut self.packets, &mut self.spare);
+                Ok(())
+            }
+            Err(error) => Err(self.refused_among_all(alloc, access_unit, error)),
+        }
     }
 
     /// How much memory the packets of the units of an access unit take, each behind so many bytes.
@@ -85,9 +98,12 @@ impl SendingEndpoint {
         ensures memory { sending_refusal self.now mtu access_unit.now ≡ None →
             OnErr result (result ≡ Err EveryUnitError.OutOfMemory) }
     {
-        let units = units_of(alloc, &self.packetizer, access_unit)?;
-        self.packetizer
-            .units_size(self.packing, mtu, &units, headroom)
+        let units = self.sent_units(alloc, access_unit)?;
+        let packing = self.settings.packing;
+        match self.packetizer.units_size(packing, mtu, &units, headroom) {
+            Ok(size) => Ok(size),
+            Err(error) => Err(self.refused_among_all(alloc, access_unit, error)),
+        }
     }
 
     /// Copies the packets of the units of an access unit straight to memory where they fit; else
@@ -110,8 +126,7 @@ impl SendingEndpoint {
         ensures codec { any_packetizer_codec self.new.packetizer
             ≡ any_packetizer_codec self.old.packetizer }
         ensures kept_packets { self.new.packets ≡ self.old.packets }
-        ensures lowest { self.new.lowest_header ≡ self.old.lowest_header }
-        ensures packing { self.new.packing ≡ self.old.packing }
+        ensures settings { self.new.settings ≡ self.old.settings }
         ensures kept_unplaced { IfOk result (λ it. is_placed it ≡ false → self.new ≡ self.old) }
         ensures kept { OnErr result (self.new ≡ self.old) }
         ensures kept_memory { OnErr result ((to.new ≡ to.old) × (ends.new ≡ ends.old)) }
@@ -121,8 +136,14 @@ impl SendingEndpoint {
         ensures memory { sending_refusal self.old mtu access_unit.now ≡ None →
             OnErr result (result ≡ Err EveryUnitError.OutOfMemory) }
     {
-        let units = units_of(alloc, &self.packetizer, access_unit)?;
-        self.packetizer
-            .packetize_units_to_memory(self.packing, mtu, &units, headroom, to, ends)
+        let units = self.sent_units(alloc, access_unit)?;
+        let packing = self.settings.packing;
+        let made = self
+            .packetizer
+            .packetize_units_to_memory(packing, mtu, &units, headroom, to, ends);
+        match made {
+            Ok(placement) => Ok(placement),
+            Err(error) => Err(self.refused_among_all(alloc, access_unit, error)),
+        }
     }
 }

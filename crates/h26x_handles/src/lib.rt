@@ -11,3 +11,4 @@ pub mod headers;
 pub mod receiving;
 pub mod sending;
 pub mod sequenced;
+pub mod settings;

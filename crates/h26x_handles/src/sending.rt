@@ -6,29 +6,29 @@ ghost use Rattle.h26x_model.specs.Send.PacketizerState.{after_payload, payload_h
 ghost use Rattle.h26x_packetizer.specs.Placement.{IsPlacement, is_placed};
 ghost use Rattle.h26x_codec.specs.Codec.{codec_format, fresh_packetizer_state};
 ghost use Rattle.h26x_codec.specs.AnyPacketizer.{any_packetizer_codec, any_packetizer_with_donl, any_packetizer_with_max_packet_size, IsBehindPlaced};
+ghost use Rattle.h26x_handles.specs.Settings.{first_settings};
 ghost use Rattle.h26x_handles.specs.States.{sending_state, sending_packets, headers_asked};
 ghost use Rattle.h26x_codes.specs.Copies.{nth_packet, AreCopied};
 
 use crate::headers::{headers_wanted, set_headers, set_placed_headers};
+use crate::settings::SendingSettings;
 use h26x_codec::{AnyPacketizer, Codec};
 use h26x_codes::code::may_have_donl;
 use h26x_codes::copy::{bytes_from, copy_packets};
 use h26x_core::PacketError;
-use h26x_packetizer::{PacketBuffer, Packing, Placement};
+use h26x_packetizer::{PacketBuffer, Placement};
 use std::alloc::Global;
 use std::marker::Model;
 use std::mem;
 
-/// A packetizer of a codec, the packets of its last call, whether aggregates of H.265 get the header
-/// of their units, and which units of an access unit share packets.
+/// A packetizer of a codec, the packets of its last call, and its settings.
 #[derive(Drop)]
 pub struct SendingEndpoint {
     /// The packetizer.
     pub packetizer: AnyPacketizer,
     // As the packetizer has it.
     has_donl: bool,
-    lowest_header: bool,
-    pub(crate) packing: Packing,
+    pub(crate) settings: SendingSettings,
     pub(crate) packets: PacketBuffer,
     // Where a call writes: the packets of before stay until it is carried out.
     pub(crate) spare: PacketBuffer,
@@ -43,8 +43,7 @@ impl Model for SendingEndpoint {
     ghost view = { λ it. record {
       packetizer = it.packetizer;
       packets = it.packets.packets;
-      lowest_header = it.lowest_header;
-      packing = it.packing;
+      settings = it.settings;
     } };
 
     ghost invariant = { λ it. (has_numbers it.packetizer ≡ it.has_donl)
@@ -58,14 +57,12 @@ impl SendingEndpoint {
         ensures fresh { sending_state result
             ≡ fresh_packetizer_state (codec_format codec has_donl) }
         ensures none { result.packets ≡ [] }
-        ensures off { result.lowest_header ≡ false }
-        ensures together { result.packing ≡ Packing.Together }
+        ensures settings { result.settings ≡ first_settings }
     {
         SendingEndpoint {
             packetizer: AnyPacketizer::new(alloc, codec, has_donl),
             has_donl: has_donl && may_have_donl(codec),
-            lowest_header: false,
-            packing: Packing::Together,
+            settings: SendingSettings::new(),
             packets: PacketBuffer::new(alloc, 0),
             spare: PacketBuffer::new(alloc, 0),
         }
@@ -75,15 +72,13 @@ impl SendingEndpoint {
     pub fn clone(&self, alloc: Global) -> Result<Self, PacketError>
         ensures same { IfOk result (λ it. it.packetizer ≡ self.now.packetizer) }
         ensures none { IfOk result (λ it. it.packets ≡ []) }
-        ensures lowest { IfOk result (λ it. it.lowest_header ≡ self.now.lowest_header) }
-        ensures packing { IfOk result (λ it. it.packing ≡ self.now.packing) }
+        ensures settings { IfOk result (λ it. it.settings ≡ self.now.settings) }
         ensures memory { OnErr result (result ≡ Err PacketError.OutOfMemory) }
     {
         Ok(SendingEndpoint {
             packetizer: self.packetizer.clone()?,
             has_donl: self.has_donl,
-            lowest_header: self.lowest_header,
-            packing: self.packing,
+            settings: self.settings,
             packets: PacketBuffer::new(alloc, 0),
             spare: PacketBuffer::new(alloc, 0),
         })
@@ -109,25 +104,29 @@ impl SendingEndpoint {
         self.packetizer.with_max_packet_size(bytes);
     }
 
-    /// Sets whether aggregates of H.265 get the header of their units (RFC 7798, 4.4.2).
-    pub fn with_lowest_header(&mut self, lowest_header: bool)
-        ensures { self.new ≡ record self.old { lowest_header = lowest_header } }
+    /// Its settings.
+    pub fn settings(&self) -> SendingSettings
+        ensures { result ≡ self.now.settings }
     {
-        self.lowest_header = lowest_header;
+        self.settings
     }
 
-    /// Sets which units of an access unit share packets, where every unit goes.
-    pub fn with_packing(&mut self, packing: Packing)
-        ensures { self.new ≡ record self.old { packing = packing } }
+    /// Sets them.
+    pub fn set(&mut self, settings: SendingSettings)
+        ensures { self.new ≡ record self.old { settings = settings } }
     {
-        self.packing = packing;
+        self.settings = settings;
     }
 
     /// Where aggregates get the header of their units: whether packets bear decoding order numbers.
     fn headers(&self) -> Option<bool>
         ensures { result ≡ headers_asked self.now }
     {
-        headers_wanted(self.lowest_header, self.packetizer.codec(), self.has_donl)
+        headers_wanted(
+            self.settings.lowest_header,
+            self.packetizer.codec(),
+            self.has_donl,
+        )
     }
 
     /// Makes the packets of a payload, which take the place of the last call's.
@@ -138,8 +137,7 @@ impl SendingEndpoint {
             ≡ after_payload (sending_state self.old) mtu payload.now) }
         ensures codec { any_packetizer_codec self.new.packetizer
             ≡ any_packetizer_codec self.old.packetizer }
-        ensures lowest { self.new.lowest_header ≡ self.old.lowest_header }
-        ensures packing { self.new.packing ≡ self.old.packing }
+        ensures settings { self.new.settings ≡ self.old.settings }
         ensures kept { OnErr result (self.new ≡ self.old) }
         ensures memory { OnErr result (result ≡ Err PacketError.OutOfMemory) }
         ensures free { payload_has_no_effect (sending_state self.old) mtu payload.now ≡ true →
@@ -162,8 +160,7 @@ impl SendingEndpoint {
             ≡ after_one_unit (sending_state self.old) mtu unit.now) }
         ensures codec { any_packetizer_codec self.new.packetizer
             ≡ any_packetizer_codec self.old.packetizer }
-        ensures lowest { self.new.lowest_header ≡ self.old.lowest_header }
-        ensures packing { self.new.packing ≡ self.old.packing }
+        ensures settings { self.new.settings ≡ self.old.settings }
         ensures kept { OnErr result (self.new ≡ self.old) }
         ensures memory { OnErr result (result ≡ Err PacketError.OutOfMemory) }
 
@@ -193,8 +190,7 @@ impl SendingEndpoint {
         ensures codec { any_packetizer_codec self.new.packetizer
             ≡ any_packetizer_codec self.old.packetizer }
         ensures kept_packets { self.new.packets ≡ self.old.packets }
-        ensures lowest { self.new.lowest_header ≡ self.old.lowest_header }
-        ensures packing { self.new.packing ≡ self.old.packing }
+        ensures settings { self.new.settings ≡ self.old.settings }
         ensures kept_unplaced { IfOk result (λ it. is_placed it ≡ false → self.new ≡ self.old) }
         ensures kept { OnErr result (self.new ≡ self.old) }
         ensures kept_memory { OnErr result ((to.new ≡ to.old) × (ends.new ≡ ends.old)) }
@@ -228,8 +224,7 @@ impl SendingEndpoint {
         ensures codec { any_packetizer_codec self.new.packetizer
             ≡ any_packetizer_codec self.old.packetizer }
         ensures kept_packets { self.new.packets ≡ self.old.packets }
-        ensures lowest { self.new.lowest_header ≡ self.old.lowest_header }
-        ensures packing { self.new.packing ≡ self.old.packing }
+        ensures settings { self.new.settings ≡ self.old.settings }
         ensures kept_unplaced { IfOk result (λ it. is_placed it ≡ false → self.new ≡ self.old) }
         ensures kept { OnErr result (self.new ≡ self.old) }
         ensures kept_memory { OnErr result ((to.new ≡ to.old) × (ends.new ≡ ends.old)) }

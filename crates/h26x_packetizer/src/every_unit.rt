@@ -61,6 +61,8 @@ impl<C: EveryFormat> PayloadPacketizer<C> {
         if let Some(unit) = units_refusal(self.codec, packing, limit, units) {
             return Err(EveryUnitError::Unit(unit));
         }
+        // (room for a few at once: a list that grows packet by packet moves more often)
+        made.reserve(1)?;
         match push_units(self.codec, packing, limit, self.next_don, units, made) {
             Ok(next_don) => {
                 let next_don = if self.codec.has_donl() {

@@ -21,17 +21,20 @@ pub struct PacketParts<'a> {
     header: [u8; 5],
     header_len: usize,
     body: Body<'a>,
+    // How many bytes it has: that is asked twice, and an aggregate has to count its units.
+    len: usize,
 }
 
 impl<'a> Model for PacketParts<'a> {
-    ghost use Rattle.std.specs.Prelude.{◌≤◌, ◌++◌, List, ℕ, take};
+    ghost use Rattle.std.specs.Prelude.{◌≡◌, ◌≤◌, ◌-◌, ◌^◌, ◌++◌, List, ℕ, length, min, take};
     ghost use Rattle.h26x_packetizer.specs.Sending.{body_bytes};
 
     ghost Value = { List ℕ };
 
     ghost view = { λ a. take a.header_len a.header ++ body_bytes a.body };
 
-    ghost invariant = { λ a. a.header_len ≤ 5 };
+    ghost invariant = { λ a. (a.header_len ≤ 5)
+        × (a.len ≡ min (length (take a.header_len a.header ++ body_bytes a.body)) (2 ^ 64 - 1)) };
 }
 
 impl<'a> PacketParts<'a> {
@@ -47,6 +50,7 @@ impl<'a> PacketParts<'a> {
         PacketParts {
             header: bytes,
             header_len,
+            len: body.len().saturating_add(header_len),
             body,
         }
     }
@@ -55,7 +59,7 @@ impl<'a> PacketParts<'a> {
     pub(crate) fn len(&self) -> usize
         ensures { result ≡ min (length self.now) (2 ^ 64 - 1) }
     {
-        self.body.len().saturating_add(self.header_len)
+        self.len
     }
 
     /// Copies it to memory of its length.

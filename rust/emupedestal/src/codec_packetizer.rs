@@ -1,6 +1,5 @@
 //! A packetizer of any codec, or a caller's own.
 
-use crate::packetizer::units_of;
 use crate::{Codec, EveryUnitError, PacketError, Packetizer, Packets, PacketsSize, Packing};
 use crate::{H264Packetizer, H265Packetizer, H266Packetizer};
 use alloc::boxed::Box;
@@ -39,6 +38,18 @@ macro_rules! within {
             CodecPacketizer::H265($it) => $call,
             CodecPacketizer::H266($it) => $call,
             CodecPacketizer::Boxed($it) => $call,
+        }
+    };
+}
+
+/// What a call to the packetizer of a codec answers; `None` of one in a box, whose trait has no such call.
+macro_rules! unless_boxed {
+    ($packetizer:expr, $it:ident => $call:expr) => {
+        match $packetizer {
+            CodecPacketizer::H264($it) => $call.map(Some),
+            CodecPacketizer::H265($it) => $call.map(Some),
+            CodecPacketizer::H266($it) => $call.map(Some),
+            CodecPacketizer::Boxed(_) => Ok(None),
         }
     };
 }
@@ -131,12 +142,7 @@ impl CodecPacketizer {
         b: &[u8],
         headroom: usize,
     ) -> Result<Option<PacketsSize>, PacketError> {
-        match self {
-            CodecPacketizer::H264(it) => it.packets_size(mtu, b, headroom).map(Some),
-            CodecPacketizer::H265(it) => it.packets_size(mtu, b, headroom).map(Some),
-            CodecPacketizer::H266(it) => it.packets_size(mtu, b, headroom).map(Some),
-            CodecPacketizer::Boxed(_) => Ok(None),
-        }
+        unless_boxed!(self, it => it.packets_size(mtu, b, headroom))
     }
 
     /// The RTP payloads of one NAL unit as it is, as [`H264Packetizer::packetize_unit`] makes them. One
@@ -178,12 +184,7 @@ impl CodecPacketizer {
         mtu: usize,
         units: &[&[u8]],
     ) -> Result<Option<Vec<Vec<u8>>>, EveryUnitError> {
-        match self {
-            CodecPacketizer::H264(it) => it.packetize_units(packing, mtu, units).map(Some),
-            CodecPacketizer::H265(it) => it.packetize_units(packing, mtu, units).map(Some),
-            CodecPacketizer::H266(it) => it.packetize_units(packing, mtu, units).map(Some),
-            CodecPacketizer::Boxed(_) => Ok(None),
-        }
+        unless_boxed!(self, it => it.packetize_units(packing, mtu, units))
     }
 
     /// The packets of [`packetize_units`](Self::packetize_units) in the place of those in `packets`, as
@@ -195,16 +196,33 @@ impl CodecPacketizer {
         units: &[&[u8]],
         packets: &mut Packets,
     ) -> Result<Option<()>, EveryUnitError> {
-        match self {
-            CodecPacketizer::H264(it) => it.packetize_units_into(packing, mtu, units, packets)?,
-            CodecPacketizer::H265(it) => it.packetize_units_into(packing, mtu, units, packets)?,
-            CodecPacketizer::H266(it) => it.packetize_units_into(packing, mtu, units, packets)?,
-            CodecPacketizer::Boxed(_) => {
-                packets.take(0);
-                return Ok(None);
-            }
+        if let CodecPacketizer::Boxed(_) = self {
+            packets.take(0);
         }
-        Ok(Some(()))
+        unless_boxed!(self, it => it.packetize_units_into(packing, mtu, units, packets))
+    }
+
+    /// How many packets [`packetize_units_into`](Self::packetize_units_into) would make of units, and
+    /// how many bytes they take, as [`H264Packetizer::units_size`] says it; `None` of one in a box.
+    pub fn units_size(
+        &self,
+        packing: Packing,
+        mtu: usize,
+        units: &[&[u8]],
+        headroom: usize,
+    ) -> Result<Option<PacketsSize>, EveryUnitError> {
+        unless_boxed!(self, it => it.units_size(packing, mtu, units, headroom))
+    }
+
+    /// Sets whether the calls that take an access unit send delimiters and filler data, as
+    /// [`H264Packetizer::with_delimiters`] tells. For a packetizer in a box it changes nothing.
+    pub fn with_delimiters(&mut self, delimiters: bool) {
+        match self {
+            CodecPacketizer::H264(it) => it.with_delimiters(delimiters),
+            CodecPacketizer::H265(it) => it.with_delimiters(delimiters),
+            CodecPacketizer::H266(it) => it.with_delimiters(delimiters),
+            CodecPacketizer::Boxed(_) => {}
+        }
     }
 
     /// The same of one access unit in Annex B form, as [`H264Packetizer::packetize_access_unit`] makes
@@ -215,8 +233,7 @@ impl CodecPacketizer {
         mtu: usize,
         access_unit: &[u8],
     ) -> Result<Option<Vec<Vec<u8>>>, EveryUnitError> {
-        let units = self.units_of(access_unit)?;
-        self.packetize_units(packing, mtu, &units)
+        unless_boxed!(self, it => it.packetize_access_unit(packing, mtu, access_unit))
     }
 
     /// The packets of [`packetize_access_unit`](Self::packetize_access_unit) in the place of those in
@@ -228,18 +245,23 @@ impl CodecPacketizer {
         access_unit: &[u8],
         packets: &mut Packets,
     ) -> Result<Option<()>, EveryUnitError> {
-        let units = self.units_of(access_unit)?;
-        self.packetize_units_into(packing, mtu, &units, packets)
+        if let CodecPacketizer::Boxed(_) = self {
+            packets.take(0);
+        }
+        unless_boxed!(self, it => it.packetize_access_unit_into(packing, mtu, access_unit, packets))
     }
 
-    /// The units of an access unit in Annex B form; none of one in a box.
-    fn units_of<'a>(&self, access_unit: &'a [u8]) -> Result<Vec<&'a [u8]>, EveryUnitError> {
-        match self {
-            CodecPacketizer::H264(_) => units_of(Codec::H264, access_unit),
-            CodecPacketizer::H265(_) => units_of(Codec::H265, access_unit),
-            CodecPacketizer::H266(_) => units_of(Codec::H266, access_unit),
-            CodecPacketizer::Boxed(_) => Ok(Vec::new()),
-        }
+    /// How many packets [`packetize_access_unit_into`](Self::packetize_access_unit_into) would make of
+    /// an access unit, and how many bytes they take, as [`H264Packetizer::access_unit_size`] says it;
+    /// `None` of one in a box.
+    pub fn access_unit_size(
+        &self,
+        packing: Packing,
+        mtu: usize,
+        access_unit: &[u8],
+        headroom: usize,
+    ) -> Result<Option<PacketsSize>, EveryUnitError> {
+        unless_boxed!(self, it => it.access_unit_size(packing, mtu, access_unit, headroom))
     }
 }
 

@@ -7,16 +7,15 @@ use crate::proved::h26x_packetizer::{PacketsSize, PayloadPacketizer, Placement};
 use crate::proved::h264_payload::H264;
 use crate::proved::h265_payload::{H265, set_lowest_header};
 use crate::proved::h266_payload::H266;
+use crate::support::AllocError;
 use crate::{PacketError, Packetizer, Packets};
 use alloc::vec::Vec;
 
-pub(crate) use every_unit::units_of;
-
 /// Makes packets in the place of those in `packets`, whose room grows where they don't fit.
-fn make_into(
+fn make_into<E: From<AllocError>>(
     packets: &mut Packets,
-    mut make: impl FnMut(usize, &mut [u8], &mut [usize]) -> Result<Placement, PacketError>,
-) -> Result<(), PacketError> {
+    mut make: impl FnMut(usize, &mut [u8], &mut [usize]) -> Result<Placement, E>,
+) -> Result<(), E> {
     loop {
         let headroom = packets.headroom();
         let (bytes, ends) = packets.room();
@@ -69,6 +68,7 @@ macro_rules! packetizer {
         pub struct $name {
             inner: PayloadPacketizer<$codec>,
             sets_header: SetsHeader,
+            delimiters: bool,
         }
 
         impl Default for $name {
@@ -76,6 +76,7 @@ macro_rules! packetizer {
                 $name {
                     inner: PayloadPacketizer::new(),
                     sets_header: SetsHeader::default(),
+                    delimiters: true,
                 }
             }
         }
@@ -85,6 +86,7 @@ macro_rules! packetizer {
                 $name {
                     inner: self.inner.try_clone().expect("memory"),
                     sets_header: self.sets_header,
+                    delimiters: self.delimiters,
                 }
             }
         }

@@ -1,10 +1,9 @@
 //! Packets in one buffer.
 
-use crate::proved::h26x_packetizer::PacketBuffer;
 use crate::support::{AllocError, Count};
 use alloc::vec::Vec;
+use core::fmt;
 use core::ops::{Index, Range};
-use core::{fmt, mem};
 
 /// The packets of a call, one behind the other in one buffer, which keeps its memory from call to
 /// call.
@@ -12,9 +11,6 @@ use core::{fmt, mem};
 /// Before each packet so many bytes are left as [`with_headroom`](Self::with_headroom) says, for the
 /// headers of the layers below. What stands there is the caller's: a call that makes packets leaves
 /// it as it is, so write all of it.
-///
-/// The packets of [`packetize_units_into`](crate::H264Packetizer::packetize_units_into) are made in a
-/// second buffer, whose memory it keeps too.
 ///
 /// ```
 /// use emupedestal::{H264Packetizer, Packets};
@@ -32,25 +28,21 @@ use core::{fmt, mem};
 /// }
 /// # Ok::<(), emupedestal::PacketError>(())
 /// ```
+#[derive(Default, Clone)]
 pub struct Packets {
     // Both have all that they ever had room for; the packets stand in front.
     bytes: Vec<u8>,
     ends: Vec<usize>,
     count: usize,
     headroom: usize,
-    // Where packets of lists of units are made, before they are copied here.
-    made: PacketBuffer,
 }
 
 impl Packets {
     /// No packets yet, and so many bytes before each of those that come, in bytes.
     pub fn with_headroom(headroom: usize) -> Self {
         Packets {
-            bytes: Vec::new(),
-            ends: Vec::new(),
-            count: 0,
             headroom,
-            made: PacketBuffer::new(0),
+            ..Packets::default()
         }
     }
 
@@ -153,56 +145,17 @@ impl Packets {
 
     /// Copies of packets, in the place of those that stand here.
     pub(crate) fn replace(&mut self, packets: &[Vec<u8>]) {
-        let bytes = packets.iter().map(Vec::len).sum::<usize>();
-        self.grow(packets.len(), bytes + packets.len() * self.headroom);
-        self.copy(packets.len(), packets.iter().map(Vec::as_slice));
-    }
-
-    /// Copies of the packets that `make` appends to an empty buffer, in the place of those that stand
-    /// here, which a refusal leaves.
-    pub(crate) fn replace_by<E: From<AllocError>>(
-        &mut self,
-        make: impl FnOnce(&mut PacketBuffer) -> Result<(), E>,
-    ) -> Result<(), E> {
-        let mut made = mem::replace(&mut self.made, PacketBuffer::new(0));
-        made.clear();
-        let result = make(&mut made).and_then(|()| {
-            let headrooms = made.len().saturating_mul(self.headroom);
-            self.try_grow(made.len(), made.bytes().len().saturating_add(headrooms))?;
-            self.copy(made.len(), made.iter());
-            Ok(())
-        });
-        self.made = made;
-        result
-    }
-
-    /// Copies so many packets into the room that there is for them.
-    fn copy<'a>(&mut self, count: usize, packets: impl Iterator<Item = &'a [u8]>) {
+        let headroom = self.headroom;
+        let size = packets.iter().map(|packet| headroom + packet.len()).sum();
+        self.grow(packets.len(), size);
         let mut end = 0;
-        for (i, packet) in packets.enumerate() {
-            let begin = end + self.headroom;
+        for (i, packet) in packets.iter().enumerate() {
+            let begin = end + headroom;
             end = begin + packet.len();
             self.bytes[begin..end].copy_from_slice(packet);
             self.ends[i] = end;
         }
-        self.take(count);
-    }
-}
-
-impl Default for Packets {
-    fn default() -> Self {
-        Packets::with_headroom(0)
-    }
-}
-
-impl Clone for Packets {
-    fn clone(&self) -> Self {
-        Packets {
-            bytes: self.bytes.clone(),
-            ends: self.ends.clone(),
-            count: self.count,
-            ..Packets::with_headroom(self.headroom)
-        }
+        self.take(packets.len());
     }
 }
 

@@ -97,6 +97,7 @@ from .errors import (
     WrongEnd,
 )
 from .look import (
+    begins_keyframe,
     detect_h264_nalu,
     detect_keyframe,
     is_partition_head,
@@ -245,6 +246,7 @@ __all__ = [
     "UnitsError",
     "UnknownCodec",
     "WrongEnd",
+    "begins_keyframe",
     "detect_h264_nalu",
     "detect_keyframe",
     "fits_single_units",

@@ -190,6 +190,7 @@ CALLS: Dict[str, Tuple[Any, List[Any]]] = {
     "packetize_unit_into": _INTO,
     "packets_size": (c_uint32, [_HANDLE, c_size_t, *_IN, c_size_t, _SIZE, _SIZE]),
     "packetizer_set_packing": (c_uint32, [_HANDLE, c_uint32]),
+    "packetizer_set_delimiters": (c_uint32, [_HANDLE, c_bool]),
     "packetize_units": (c_uint32, [_HANDLE, c_size_t, *_IN, _SIZE, _WHY]),
     "packetize_units_into": (
         c_uint32,
@@ -243,6 +244,7 @@ CALLS: Dict[str, Tuple[Any, List[Any]]] = {
     "is_partition_head": (c_bool, [c_uint32, *_IN]),
     "is_partition_tail": (c_bool, [c_uint32, c_bool, *_IN]),
     "detect_keyframe": (c_bool, [c_uint32, *_IN]),
+    "begins_keyframe": (c_bool, [c_uint32, c_bool, *_IN]),
     "detect_h264_nalu": (c_bool, [*_IN, c_uint8]),
     "set_lowest_header": (None, [c_uint32, c_bool, _BYTE, c_size_t]),
     "next_unit": (c_bool, [c_uint32, *_IN, c_size_t, _SIZE, _SIZE]),

@@ -35,6 +35,18 @@ def detect_keyframe(codec: int, packet: Buffer) -> bool:
     return bool(library.h26x_detect_keyframe(codec_of(codec), data, len(data)))
 
 
+def begins_keyframe(codec: int, packet: Buffer, *, donl: bool = False) -> bool:
+    """Whether a packet begins a unit of a keyframe: it holds one, alone or in an aggregate, or is its first
+    fragment. `donl`: whether packets bear decoding order numbers; those of H.264 don't. So a forwarder finds where a keyframe
+    begins, whichever units share packets.
+
+    Key units are slices of IDR pictures of H.264, of IRAP pictures of H.265, of IDR and CRA pictures of
+    H.266. A packet that a Depacketizer refuses begins none. Raises UnknownCodec.
+    """
+    data = as_bytes(packet)
+    return bool(library.h26x_begins_keyframe(codec_of(codec), donl, data, len(data)))
+
+
 def detect_h264_nalu(packet: Buffer, nalu_type: int) -> bool:
     """Whether an H.264 packet is known to hold a unit of this type, or to be the first fragment of
     one."""

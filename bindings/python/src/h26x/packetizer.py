@@ -61,7 +61,7 @@ class Packetizer(Owner):
 
     def _set_up(self, handle: Handle, codec: Codec, donl: bool, largest: Optional[int]) -> None:
         self._codec, self._donl, self._max_packet_size = codec, donl, largest
-        self._lowest_header, self._packing = False, Packing.TOGETHER
+        self._lowest_header, self._packing, self._delimiters = False, Packing.TOGETHER, True
         self._room, self._ends = Room(), Ends()
         self._count, self._size, self._why = c_size_t(), c_size_t(), Refusal()
         self._own(handle)
@@ -126,6 +126,19 @@ class Packetizer(Owner):
         check(self._with_handle(library.h26x_packetizer_set_packing, asked))
         self._packing = Packing(asked)
 
+    @property
+    def delimiters(self) -> bool:
+        """Whether `packetize_units` sends access unit delimiters and filler data, of which a decoder needs
+        nothing. It does at first; else an access unit is sent as if these units weren't there, but that
+        a unit that can't go is told by its place among all. A stream of H.266 of several layers has to
+        have its delimiters (H.266, 7.4.2.4)."""
+        return self._delimiters
+
+    @delimiters.setter
+    def delimiters(self, value: bool) -> None:
+        check(self._with_handle(library.h26x_packetizer_set_delimiters, value))
+        self._delimiters = value
+
     def packetize(self, mtu: int, payload: Buffer) -> List[bytes]:
         """The RTP payloads of `payload`, in order, each of at most `mtu` bytes.
 
@@ -165,7 +178,7 @@ class Packetizer(Owner):
 
     def packetize_units(self, mtu: int, access_unit: Buffer) -> List[bytes]:
         """The RTP payloads of one access unit in Annex B form, as an encoder gives it: every unit, in
-        order and as it is, whatever its kind, so several sets of a kind and delimiters arrive too.
+        order and as it is, whatever its kind (but see `delimiters`), so several sets of a kind and delimiters arrive too.
 
         With `packing` TOGETHER no sender that brings these units needs fewer packets (RFC 6184, 5.7.1;
         RFC 7798, 4.4.2; RFC 9328, 4.3.2). Parameter sets that wait for `packetize` stay: one stream
@@ -250,6 +263,7 @@ class Packetizer(Owner):
         made = type(self).__new__(type(self))
         made._set_up(self._cloned(), self._codec, self._donl, self._max_packet_size)
         made._lowest_header, made._packing = self._lowest_header, self._packing
+        made._delimiters = self._delimiters
         return made
 
     __copy__ = copy

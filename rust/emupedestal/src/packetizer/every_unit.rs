@@ -1,10 +1,10 @@
 //! Packets of every unit of an access unit.
 
-use super::{H264Packetizer, H265Packetizer, H266Packetizer};
+use super::{H264Packetizer, H265Packetizer, H266Packetizer, make_into};
+use crate::proved::h26x_codec::refused_among_all;
 use crate::proved::h26x_cut;
-use crate::proved::h26x_packetizer::{EveryFormat, PayloadPacketizer};
-use crate::support::TryVec;
-use crate::{Codec, EveryUnitError, Packets, Packing, WhyRefused};
+use crate::support::{AllocError, TryVec};
+use crate::{Codec, EveryUnitError, Packets, PacketsSize, Packing, WhyRefused};
 use alloc::vec::Vec;
 use core::error::Error;
 use core::fmt;
@@ -27,33 +27,56 @@ impl fmt::Display for EveryUnitError {
 
 impl Error for EveryUnitError {}
 
-/// For how many units there is room at first: so many that few access units need more.
-const FIRST_UNITS: usize = 16;
+/// Fewer units than so many take no memory: few access units have more.
+const FEW_UNITS: usize = 16;
 
-/// The units of an access unit in Annex B form.
-pub(crate) fn units_of(codec: Codec, access_unit: &[u8]) -> Result<Vec<&[u8]>, EveryUnitError> {
-    let mut units = Vec::try_with_room(FIRST_UNITS)?;
-    for unit in h26x_cut::units(access_unit, codec.zero_rule()) {
-        units.try_push(unit)?;
+/// What a call answers of the units of an access unit in Annex B form, a refused one by its place among
+/// all.
+fn with_units<T>(
+    codec: Codec,
+    delimiters: bool,
+    access_unit: &[u8],
+    call: impl FnOnce(&[&[u8]]) -> Result<T, EveryUnitError>,
+) -> Result<T, EveryUnitError> {
+    if delimiters {
+        return with_sent(codec, |_| true, access_unit, call);
     }
-    Ok(units)
+    let sends = |unit: &&[u8]| !codec.is_delimiter(unit);
+    with_sent(codec, sends, access_unit, call)
+        .map_err(|error| refused_among_all(codec, delimiters, access_unit, error))
 }
 
-/// Makes the packets of units in the place of those in `packets`.
-fn make_units_into<C: EveryFormat>(
-    packetizer: &mut PayloadPacketizer<C>,
-    packing: Packing,
-    mtu: usize,
-    units: &[&[u8]],
-    packets: &mut Packets,
-) -> Result<(), EveryUnitError> {
-    // Room for the packets is asked for once they are made: until it is there the packetizer stays.
-    let Ok(mut after) = packetizer.try_clone() else {
-        return Err(EveryUnitError::OutOfMemory);
-    };
-    packets.replace_by(|made| after.packetize_units_into(packing, mtu, units, made))?;
-    *packetizer = after;
-    Ok(())
+/// What a call answers of those of them that are sent, a refused one by its place among these.
+fn with_sent<T>(
+    codec: Codec,
+    sends: impl Fn(&&[u8]) -> bool,
+    access_unit: &[u8],
+    call: impl FnOnce(&[&[u8]]) -> Result<T, EveryUnitError>,
+) -> Result<T, EveryUnitError> {
+    let mut units = h26x_cut::units(access_unit, codec.zero_rule()).filter(sends);
+    let mut few: [&[u8]; FEW_UNITS] = [&[]; FEW_UNITS];
+    for count in 0..FEW_UNITS {
+        match units.next() {
+            Some(unit) => few[count] = unit,
+            None => return call(&few[..count]),
+        }
+    }
+    call(&all_of(&few, units)?)
+}
+
+/// The first units, and those behind them.
+#[cold]
+#[inline(never)]
+fn all_of<'a>(
+    first: &[&'a [u8]],
+    rest: impl Iterator<Item = &'a [u8]>,
+) -> Result<Vec<&'a [u8]>, AllocError> {
+    let mut all = Vec::try_with_room(4 * first.len())?;
+    all.extend_from_slice(first);
+    for unit in rest {
+        all.try_push(unit)?;
+    }
+    Ok(all)
 }
 
 macro_rules! every_unit {
@@ -105,20 +128,47 @@ macro_rules! every_unit {
                 units: &[&[u8]],
                 packets: &mut Packets,
             ) -> Result<(), EveryUnitError> {
-                make_units_into(&mut self.inner, packing, mtu, units, packets)
+                make_into(packets, |headroom, to, ends| {
+                    self.inner
+                        .packetize_units_to_memory(packing, mtu, units, headroom, to, ends)
+                })
+            }
+
+            /// How many packets [`packetize_units_into`](Self::packetize_units_into) would make of units,
+            /// and how many bytes they take with `headroom` bytes before each. Nothing changes, and units
+            /// are refused as there.
+            pub fn units_size(
+                &self,
+                packing: Packing,
+                mtu: usize,
+                units: &[&[u8]],
+                headroom: usize,
+            ) -> Result<PacketsSize, EveryUnitError> {
+                self.inner.units_size(packing, mtu, units, headroom)
+            }
+
+            /// Sets whether the calls that take an access unit send access unit delimiters and filler data,
+            /// of which a decoder needs nothing ([`Codec::is_delimiter`]). They do at first; else an access
+            /// unit is sent as if these units weren't there, but that a unit that can't go is told by its
+            /// place among all. A stream of H.266 of several layers has to have its delimiters (H.266,
+            /// 7.4.2.4). Calls that take a list of units send those of the list.
+            pub fn with_delimiters(&mut self, delimiters: bool) {
+                self.delimiters = delimiters;
             }
 
             /// The RTP payloads of the units of one access unit in Annex B form, cut as
             /// [`units`](crate::units) does, as [`packetize_units`](Self::packetize_units) makes and
-            /// refuses them. An empty text has none.
+            /// refuses them; [`with_delimiters`](Self::with_delimiters) says whether all are sent. An empty
+            /// text has none.
             pub fn packetize_access_unit(
                 &mut self,
                 packing: Packing,
                 mtu: usize,
                 access_unit: &[u8],
             ) -> Result<Vec<Vec<u8>>, EveryUnitError> {
-                let units = units_of(Codec::$codec, access_unit)?;
-                self.packetize_units(packing, mtu, &units)
+                with_units(Codec::$codec, self.delimiters, access_unit, |units| {
+                    self.packetize_units(packing, mtu, units)
+                })
             }
 
             /// The packets of [`packetize_access_unit`](Self::packetize_access_unit) in the place of
@@ -130,8 +180,24 @@ macro_rules! every_unit {
                 access_unit: &[u8],
                 packets: &mut Packets,
             ) -> Result<(), EveryUnitError> {
-                let units = units_of(Codec::$codec, access_unit)?;
-                self.packetize_units_into(packing, mtu, &units, packets)
+                with_units(Codec::$codec, self.delimiters, access_unit, |units| {
+                    self.packetize_units_into(packing, mtu, units, packets)
+                })
+            }
+
+            /// How many packets [`packetize_access_unit_into`](Self::packetize_access_unit_into) would
+            /// make of an access unit, and how many bytes they take with `headroom` bytes before each.
+            /// Nothing changes, and units are refused as there.
+            pub fn access_unit_size(
+                &self,
+                packing: Packing,
+                mtu: usize,
+                access_unit: &[u8],
+                headroom: usize,
+            ) -> Result<PacketsSize, EveryUnitError> {
+                with_units(Codec::$codec, self.delimiters, access_unit, |units| {
+                    self.units_size(packing, mtu, units, headroom)
+                })
             }
         }
     };

@@ -6,6 +6,8 @@ mod any_depacketizer;
 mod any_packetizer;
 mod any_payload_depacketizer;
 mod codec;
+mod every_unit;
+mod keyframe;
 mod plain;
 
 pub use crate::proved::h26x_packetizer::{
@@ -15,3 +17,5 @@ pub use any_depacketizer::AnyDepacketizer;
 pub use any_packetizer::AnyPacketizer;
 pub use any_payload_depacketizer::AnyPayloadDepacketizer;
 pub use codec::Codec;
+pub use every_unit::refused_among_all;
+pub(crate) use every_unit::sent_units;

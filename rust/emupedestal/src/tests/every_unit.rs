@@ -2,8 +2,9 @@
 //! 9328, 4.3.2).
 
 use super::{bytes, payload, sends};
-use crate::{Codec, CodecPacketizer, EveryUnitError, Packets, Packing, RefusedUnit, WhyRefused};
-use crate::{H264Packetizer, H265Packetizer, H266Packetizer, detect_keyframe};
+use crate::{Codec, CodecPacketizer, EveryUnitError, Packets, PacketsSize, Packing};
+use crate::{H264Packetizer, H265Packetizer, H266Packetizer, RefusedUnit, WhyRefused};
+use crate::{detect_keyframe, units};
 use std::error::Error;
 
 const ALL_PACKINGS: [Packing; 4] = [
@@ -21,7 +22,15 @@ fn slices(of: &[Vec<u8>]) -> Vec<&[u8]> {
     of.iter().map(Vec::as_slice).collect()
 }
 
-/// Sends units by each of the four calls, from the same state, and compares their packets with what is wanted.
+/// Units behind start codes.
+fn joined(of: &[Vec<u8>]) -> Vec<u8> {
+    of.iter()
+        .flat_map(|unit| [&[0, 0, 1], &unit[..]].concat())
+        .collect()
+}
+
+/// Sends units by each of the four calls, from the same state, and compares their packets, and the sizes that were told
+/// before, with what is wanted.
 #[track_caller]
 fn sends_units(
     end: &mut CodecPacketizer,
@@ -32,11 +41,19 @@ fn sends_units(
 ) {
     let wanted = all_bytes(wanted);
     let list = all_bytes(units);
+    let text = payload(units);
     let mut others = [clone_of(end), clone_of(end), clone_of(end)];
+    let size = PacketsSize {
+        packets: wanted.len(),
+        bytes: wanted.iter().map(|packet| 3 + packet.len()).sum(),
+    };
+    let told = end.units_size(packing, mtu, &slices(&list), 3);
+    assert_eq!(told, Ok(Some(size)));
+    let told = end.access_unit_size(packing, mtu, &text, 3);
+    assert_eq!(told, Ok(Some(size)));
     let made = end.packetize_units(packing, mtu, &slices(&list));
     assert_eq!(made, Ok(Some(wanted.clone())));
 
-    let text = payload(units);
     let mut packets = Packets::with_headroom(3);
     let [units_into, of_text, text_into] = &mut others;
     let answer = units_into.packetize_units_into(packing, mtu, &slices(&list), &mut packets);
@@ -305,6 +322,59 @@ fn a_box_has_no_such_call() {
         end.packetize_access_unit(Packing::Together, 1200, unit),
         Ok(None)
     );
+    let told = end.units_size(Packing::Together, 1200, &[unit], 0);
+    assert_eq!(told, Ok(None));
+    let told = end.access_unit_size(Packing::Together, 1200, unit, 0);
+    assert_eq!(told, Ok(None));
+}
+
+/// Of three codecs, with numbers and without.
+#[test]
+fn sizes_are_those_of_the_packets() {
+    for (codec, [set, slice, end_of_sequence]) in [
+        (Codec::H264, ["6742aa", "61070707", "0a"]),
+        (Codec::H265, ["420107", "02030707", "4a01"]),
+        (Codec::H266, ["007907", "000b0707", "00a9"]),
+    ] {
+        let mut units = all_bytes(&[set, slice, slice, set, slice, slice, end_of_sequence]);
+        units[2].resize(300, 7);
+        units[5].resize(90, 7);
+        let (units, text) = (slices(&units), joined(&units));
+        for packing in &ALL_PACKINGS[..3] {
+            for (limit, headroom) in [(6, 0), (7, 1), (20, 3), (100, 12), (400, 5), (5000, 64)] {
+                for has_donl in [false, true] {
+                    let mut end = packetizer(codec, has_donl);
+                    let told = end.units_size(*packing, limit, &units, headroom);
+                    let of_text = end.access_unit_size(*packing, limit, &text, headroom);
+                    assert_eq!(of_text, told);
+                    let mut packets = Packets::with_headroom(headroom);
+                    end.packetize_units_into(*packing, limit, &units, &mut packets)
+                        .unwrap();
+                    let size = PacketsSize {
+                        packets: packets.len(),
+                        bytes: packets.bytes().len(),
+                    };
+                    assert_eq!(told, Ok(Some(size)), "{codec} {packing:?} {limit}");
+                    let told = end.units_size(*packing, limit, &units, usize::MAX).unwrap();
+                    assert_eq!(told.map(|it| it.bytes), Some(usize::MAX));
+                }
+            }
+        }
+    }
+}
+
+/// The list of an access unit's units grows.
+#[test]
+fn access_units_of_many_units() {
+    for count in [15, 16, 17, 64, 65, 300] {
+        let list: Vec<Vec<u8>> = (0..count)
+            .map(|i| [&[0x61][..], &[0xaa; 9][..i % 10]].concat())
+            .collect();
+        let text = joined(&list);
+        assert_eq!(units(Codec::H264, &text).count(), count);
+        let made = H264Packetizer::default().packetize_access_unit(Packing::Apart, 100, &text);
+        assert_eq!(made, Ok(list));
+    }
 }
 
 /// A forwarder finds keyframes behind other units of an aggregate.
@@ -327,7 +397,7 @@ fn keyframes_in_aggregates_are_detected() {
     }
 }
 
-/// Gives units of which the one at `place` can't go, by each of the four calls: it is named, and nothing changes.
+/// Gives units of which the one at `place` can't go, by each of the calls: it is named, and nothing changes.
 #[track_caller]
 fn refuses_units(
     codec: Codec,
@@ -350,11 +420,13 @@ fn refuses_units(
     assert_eq!(before[0], bytes(numbered[0]));
 
     assert_eq!(end.packetize_units(packing, mtu, &list), Err(wanted));
+    assert_eq!(end.units_size(packing, mtu, &list, 2), Err(wanted));
     let refused = end.packetize_units_into(packing, mtu, &list, &mut packets);
     assert_eq!((refused, &packets), (Err(wanted), &before));
     // No unit between start codes is empty.
     if len > 0 {
         assert_eq!(end.packetize_access_unit(packing, mtu, &text), Err(wanted));
+        assert_eq!(end.access_unit_size(packing, mtu, &text, 2), Err(wanted));
         let refused = end.packetize_access_unit_into(packing, mtu, &text, &mut packets);
         assert_eq!((refused, &packets), (Err(wanted), &before));
     }

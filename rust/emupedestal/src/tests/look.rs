@@ -46,6 +46,40 @@ fn keyframes_of_each_codec() {
     assert!(detect_h264_nalu(&bytes("650000"), 5));
 }
 
+/// In aggregates with numbers too: RFC 7798, 4.4.2 has a DONL and a DOND, RFC 9328, 4.3.2 a DONL.
+#[test]
+fn keyframes_that_begin() {
+    for (codec, key, other) in [
+        (
+            Codec::H264,
+            ["7c850000", "18 0002 67aa 0002 65bb"],
+            ["7c050000", "18 0002 67aa 0002 41bb"],
+        ),
+        (
+            Codec::H265,
+            ["62019307aaaa", "6001 0007 0003 0201aa 00 0003 2601af"],
+            [
+                "6001 0007 0003 0201aa 26 0003 0201af",
+                "6001 0003 0201aa 0003 2601af",
+            ],
+        ),
+        (
+            Codec::H266,
+            ["00e98707aaaa", "00e1 0007 0003 0079aa 0003 0041af"],
+            [
+                "00e1 0007 0003 0079aa 0003 0001af",
+                "00e1 0003 0079aa 0003 0041af",
+            ],
+        ),
+    ] {
+        let begins = |p: &[u8]| codec.begins_keyframe(true, p);
+        all(begins, true, &key);
+        all(begins, false, &other);
+        all(begins, false, &[""]);
+    }
+    assert!(Codec::H265.begins_keyframe(false, &bytes("6001 0003 0201aa 0003 2601af")));
+}
+
 /// RFC 7798, 4.4.2: the layer and the temporal id are the lowest of the units, and F is set where one has it.
 #[test]
 fn lowest_headers() {

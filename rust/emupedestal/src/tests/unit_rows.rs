@@ -2,7 +2,7 @@
 //! written, and which C, Go and Python walk too.
 
 use super::{bytes, payload};
-use crate::{Codec, CodecPacketizer, EveryUnitError, Packing, WhyRefused};
+use crate::{Codec, CodecPacketizer, EveryUnitError, Packets, PacketsSize, Packing, WhyRefused};
 
 const TEXT: &str = include_str!(concat!(
     env!("CARGO_MANIFEST_DIR"),
@@ -45,9 +45,16 @@ fn units_of_the_text() {
             "h265" => Codec::H265,
             _ => Codec::H266,
         };
-        let [mut end, mut other] = [(); 2].map(|()| CodecPacketizer::new(codec));
-        end.with_donl(!donl.is_empty());
-        other.with_donl(!donl.is_empty());
+        let [mut end, mut other, mut placed] = [(); 3].map(|()| CodecPacketizer::new(codec));
+        for it in [&mut end, &mut other, &mut placed] {
+            it.with_donl(!donl.is_empty());
+        }
+        let (packing, delimiters) = match packing.strip_suffix(" without delimiters") {
+            Some(packing) => (packing, false),
+            None => (packing, true),
+        };
+        other.with_delimiters(delimiters);
+        placed.with_delimiters(delimiters);
         let packing = match packing {
             "together" => Packing::Together,
             "before slices" => Packing::BeforeSlices,
@@ -59,10 +66,25 @@ fn units_of_the_text() {
         let list: Vec<Vec<u8>> = units.iter().map(|unit| bytes(unit)).collect();
         let list: Vec<&[u8]> = list.iter().map(Vec::as_slice).collect();
         let text = payload(&units);
-        assert_eq!(said(end.packetize_units(packing, mtu, &list)), wanted);
+        if delimiters {
+            assert_eq!(said(end.packetize_units(packing, mtu, &list)), wanted);
+        }
         let made = other.packetize_access_unit(packing, mtu, &text);
         assert_eq!(said(made), wanted, "{row}");
+        let mut into = Packets::with_headroom(2);
+        let size = placed.access_unit_size(packing, mtu, &text, 2);
+        let made = placed.packetize_access_unit_into(packing, mtu, &text, &mut into);
+        let told = size.map(|size| {
+            let counted = PacketsSize {
+                packets: into.len(),
+                bytes: into.bytes().len(),
+            };
+            assert_eq!(size, Some(counted), "{row}");
+            Some(into.iter().map(<[u8]>::to_vec).collect())
+        });
+        assert_eq!(made.err(), told.as_ref().err().copied(), "{row}");
+        assert_eq!(said(told), wanted, "{row}");
         count += 1;
     }
-    assert_eq!(count, 44);
+    assert_eq!(count, 54);
 }

@@ -10,3 +10,4 @@ pub mod headers;
 pub mod receiving;
 pub mod sending;
 pub mod sequenced;
+pub mod settings;

@@ -52,6 +52,8 @@ pub struct Send {
     pub has_donl: bool,
     /// Whether packets are those of str0m, which sends no delimiters, and of sets the last ones.
     pub is_as_str0m: bool,
+    /// Whether access unit delimiters and filler data are sent.
+    pub has_delimiters: bool,
     pub payload_type: u8,
     pub port: u16,
     pub ssrc: u32,
@@ -181,10 +183,12 @@ impl Words {
         };
         let to = is_address(&output).then(|| to_send(&output)).transpose()?;
         let drawn = Drawn::of(self.number("--seed", 0, u64::MAX)?);
+        let is_as_str0m = self.flag("--as-str0m");
         Ok(Send {
             codec,
             has_donl,
-            is_as_str0m: self.flag("--as-str0m"),
+            is_as_str0m,
+            has_delimiters: self.has_delimiters(is_as_str0m)?,
             mtu: self
                 .number("--mtu", least, LONGEST_PAYLOAD as u64)?
                 .unwrap_or(1200) as u16,
@@ -202,6 +206,16 @@ impl Words {
             input,
             output,
         })
+    }
+
+    /// Whether delimiters and filler data are sent, which str0m decides itself.
+    fn has_delimiters(&mut self, is_as_str0m: bool) -> Result<bool, Failure> {
+        match self.flag("--no-delimiters") {
+            true if is_as_str0m => Err(Failure::usage(
+                "--no-delimiters: --as-str0m has a rule of its own; leave one of them out",
+            )),
+            leaves_out => Ok(!leaves_out),
+        }
     }
 
     /// The port that packets go to.

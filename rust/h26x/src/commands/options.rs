@@ -154,6 +154,10 @@ pub static GROUPS: [Group; 5] = [
                  packet together): delimiters are left out, and of each kind of parameter sets the \
                  last is sent, before the next picture, where there are an SPS and a PPS",
             ),
+            flag(
+                "--no-delimiters",
+                "access unit delimiters and filler data, of which a decoder needs nothing, are left out",
+            ),
         ],
     },
     Group {

@@ -207,8 +207,11 @@ impl<'a> Sender<'a> {
 
 impl Send {
     /// Whether a unit is sent: not one without a whole header, nor with its forbidden bit set, nor of a
-    /// type that packets have; nor, as str0m has it, a delimiter.
+    /// type that packets have; nor, as str0m has it or where that is asked for, a delimiter.
     fn sends(&self, unit: &[u8]) -> bool {
+        if !self.has_delimiters && self.codec.is_delimiter(unit) {
+            return false;
+        }
         let is_forbidden = unit.first().is_some_and(|first| first & 0x80 != 0);
         let Some(it) = unit_type(self.codec, unit) else {
             return false;

@@ -438,6 +438,10 @@ fn words_that_are_unknown() {
             "--payload-type 128: give a number from 0 to 127",
         ),
         (
+            &["send", "a.h264", "b.pcap", "--as-str0m", "--no-delimiters"],
+            "--no-delimiters: --as-str0m has a rule of its own",
+        ),
+        (
             &["inspect", "a.pcap", "--payload-type", "64"],
             "--payload-type 64: 64 to 95 can't be told from RTCP",
         ),

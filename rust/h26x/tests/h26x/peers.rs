@@ -68,11 +68,15 @@ impl Peer {
         self.child.try_wait().expect("a child").is_some()
     }
 
+    /// Waits for its end; whether it came in time.
+    pub fn ends(&mut self) -> bool {
+        until(|| self.has_ended())
+    }
+
     /// Waits for its end; whether it went well.
     #[track_caller]
     pub fn end(mut self) -> bool {
-        let has_ended = until(|| self.has_ended());
-        assert!(has_ended, "{} doesn't end: {}", self.name, self.said());
+        assert!(self.ends(), "{} doesn't end: {}", self.name, self.said());
         let is_well = self.child.wait().is_ok_and(|status| status.success());
         if !is_well {
             eprintln!("{} says: {}", self.name, self.said());

@@ -90,9 +90,17 @@ fn caps_of(codec: &str, format: &str) -> String {
     fields.fold(front, |caps, field| caps + &field)
 }
 
-/// The same of GStreamer.
+/// The same of GStreamer, which on a busy machine may pass over what came before its pipeline plays, and waits for it
+/// then: it is sent once more.
 #[track_caller]
 fn gstreamer_receives(codec: &str, stream: &[u8]) -> bool {
+    let told = (0..4).find_map(|_| gstreamer_takes(codec, stream));
+    told.expect("GStreamer ends")
+}
+
+/// The same at one go; `None` where it waits for more.
+#[track_caller]
+fn gstreamer_takes(codec: &str, stream: &[u8]) -> Option<bool> {
     let folder = Folder::new();
     let (port, free) = sockets();
     let (packets, format) = described(&folder, codec, stream, port);
@@ -105,15 +113,18 @@ fn gstreamer_receives(codec: &str, stream: &[u8]) -> bool {
     );
     let words: Vec<&str> = pipeline.split_whitespace().collect();
     let Some(mut peer) = Peer::start(&folder, "gst-launch-1.0", &words) else {
-        return false;
+        return Some(false);
     };
     if !peer.listens(port) {
-        return false;
+        return Some(false);
     }
     send_to(port, &packets);
+    if !peer.ends() {
+        return None;
+    }
     assert!(peer.end(), "GStreamer takes them");
     check_units(codec, &folder.read("back"), stream);
-    true
+    Some(true)
 }
 
 #[test]

@@ -177,6 +177,11 @@ fn as_str0m() {
             ["1 access unit in 1 packet", "left out: 0 units"],
             &[0, 1, 2, 3, 4],
         ),
+        (
+            "--no-delimiters",
+            ["1 access unit in 1 packet", "left out: 1 unit"],
+            &[1, 2, 3, 4],
+        ),
     ] {
         folder
             .run(&["send", "in.h264", "out.pcap", option])

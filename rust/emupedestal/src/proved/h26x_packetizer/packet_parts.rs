@@ -20,6 +20,8 @@ pub struct PacketParts<'a> {
     header: [u8; 5],
     header_len: usize,
     body: Body<'a>,
+    // How many bytes it has: that is asked twice, and an aggregate has to count its units.
+    len: usize,
 }
 
 impl<'a> PacketParts<'a> {
@@ -32,13 +34,14 @@ impl<'a> PacketParts<'a> {
         PacketParts {
             header: bytes,
             header_len,
+            len: body.len().saturating_add(header_len),
             body,
         }
     }
 
     /// How many bytes it has; the greatest number where they are more.
     pub(crate) fn len(&self) -> usize {
-        self.body.len().saturating_add(self.header_len)
+        self.len
     }
 
     /// Copies it to memory of its length.

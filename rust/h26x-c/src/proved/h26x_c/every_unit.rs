@@ -1,6 +1,6 @@
 // Made from crates/h26x_c/src/every_unit.rt by tools/to-rust.
 
-//! The calls of a packetizer that leave no unit out.
+//! The calls of a packetizer where every unit goes.
 
 use crate::proved::h26x_c::const_handle::ConstHandle;
 use crate::proved::h26x_c::handle::Handle;
@@ -8,6 +8,7 @@ use crate::proved::h26x_codes::code::{
     OK, OUT_OF_RANGE, Refusal, WRONG_END, code_of_placement, code_of_units, packing_of,
 };
 use crate::proved::h26x_endpoint::endpoint::Endpoint;
+use crate::proved::h26x_handles::settings::SendingSettings;
 use core::mem::MaybeUninit;
 
 /// Sets which units of an access unit share packets.
@@ -17,15 +18,33 @@ pub fn h26x_packetizer_set_packing(p: &mut Handle, packing: u32) -> u32 {
     };
     match packing_of(packing) {
         Some(packing) => {
-            it.with_packing(packing);
+            it.set(SendingSettings {
+                packing,
+                ..it.settings()
+            });
             OK
         }
         None => OUT_OF_RANGE,
     }
 }
 
-/// Makes the packets of the units of an access unit in Annex B form, none of which is left out, which
-/// take the place of the last call's; the sets that wait stay. The first unit that can't go is named.
+/// Sets whether access unit delimiters and filler data go where every unit goes.
+pub fn h26x_packetizer_set_delimiters(p: &mut Handle, delimiters: bool) -> u32 {
+    match p.get_mut() {
+        Endpoint::Sending(it) => {
+            it.set(SendingSettings {
+                delimiters,
+                ..it.settings()
+            });
+            OK
+        }
+        _ => WRONG_END,
+    }
+}
+
+/// Makes the packets of the units of an access unit in Annex B form, of which none is left out but
+/// delimiters and filler where that is set; they take the place of the last call's, and the sets that
+/// wait stay. The first unit that can't go is named.
 pub fn h26x_packetize_units(
     p: &mut Handle,
     mtu: usize,

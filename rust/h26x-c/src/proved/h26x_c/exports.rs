@@ -223,6 +223,12 @@ pub unsafe extern "C" fn h26x_packetizer_set_packing(p: *mut Handle, packing: u3
 }
 
 #[unsafe(no_mangle)]
+pub unsafe extern "C" fn h26x_packetizer_set_delimiters(p: *mut Handle, delimiters: bool) -> u32 {
+    // SAFETY: a caller owes what the header says.
+    unsafe { super::every_unit::h26x_packetizer_set_delimiters(pointers::lent(p), delimiters) }
+}
+
+#[unsafe(no_mangle)]
 pub unsafe extern "C" fn h26x_packetize_units(
     p: *mut Handle,
     mtu: usize,
@@ -360,6 +366,19 @@ pub unsafe extern "C" fn h26x_detect_keyframe(
 ) -> bool {
     // SAFETY: a caller owes what the header says.
     unsafe { super::packets::h26x_detect_keyframe(codec, pointers::bytes(packet, packet_len)) }
+}
+
+#[unsafe(no_mangle)]
+pub unsafe extern "C" fn h26x_begins_keyframe(
+    codec: u32,
+    numbers: bool,
+    packet: *const u8,
+    packet_len: usize,
+) -> bool {
+    // SAFETY: a caller owes what the header says.
+    unsafe {
+        super::packets::h26x_begins_keyframe(codec, numbers, pointers::bytes(packet, packet_len))
+    }
 }
 
 #[unsafe(no_mangle)]

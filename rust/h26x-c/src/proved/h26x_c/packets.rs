@@ -40,6 +40,15 @@ pub fn h26x_detect_keyframe(codec: u32, packet: &[u8]) -> bool {
     }
 }
 
+/// Whether a packet begins a unit of a keyframe. `numbers`: whether packets bear decoding order
+/// numbers.
+pub fn h26x_begins_keyframe(codec: u32, numbers: bool, packet: &[u8]) -> bool {
+    match codec_of(codec) {
+        Some(codec) => codec.begins_keyframe(numbers, packet),
+        None => false,
+    }
+}
+
 /// Whether an H.264 packet is known to hold a unit of this type, or to be the first fragment of
 /// one.
 pub fn h26x_detect_h264_nalu(packet: &[u8], kind: u8) -> bool {

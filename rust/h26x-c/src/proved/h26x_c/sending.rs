@@ -12,6 +12,7 @@ use crate::proved::h26x_codes::code::{
 use crate::proved::h26x_codes::copy::copy_where_room;
 use crate::proved::h26x_endpoint::endpoint::Endpoint;
 use crate::proved::h26x_handles::sending::SendingEndpoint;
+use crate::proved::h26x_handles::settings::SendingSettings;
 use core::mem::MaybeUninit;
 
 /// Makes a packetizer for which nothing waits.
@@ -81,7 +82,10 @@ pub fn h26x_packetizer_set_lowest_header(p: &mut Handle, lowest: bool) -> u32 {
             if !may_have_donl(it.packetizer.codec()) {
                 return NOT_OF_THIS_CODEC;
             }
-            it.with_lowest_header(lowest);
+            it.set(SendingSettings {
+                lowest_header: lowest,
+                ..it.settings()
+            });
             OK
         }
         _ => WRONG_END,

@@ -1,47 +1,48 @@
 // Made from crates/h26x_handles/src/every_unit.rt by tools/to-rust.
 
-//! Packets of the units of an access unit, none of which is left out.
+//! Packets of the units of an access unit, where every unit goes.
 
-use crate::proved::h26x_codec::AnyPacketizer;
-use crate::proved::h26x_cut::units;
+use crate::proved::h26x_codec::{refused_among_all, sent_units};
 use crate::proved::h26x_handles::sending::SendingEndpoint;
 use crate::proved::h26x_packetizer::{EveryUnitError, PacketsSize, Placement};
 use crate::support::AllocError;
-use crate::support::TryVec;
 use alloc::vec::Vec;
 use core::mem;
 
-/// For how many units there is room at first: so many that few access units need more.
-const FIRST_UNITS: usize = 16;
-
-/// The units of an access unit in Annex B form, as slices of it.
-fn units_of<'a>(
-    packetizer: &AnyPacketizer,
-    access_unit: &'a [u8],
-) -> Result<Vec<&'a [u8]>, AllocError> {
-    let rule = packetizer.codec().zero_rule();
-    let mut found = Vec::try_with_room(FIRST_UNITS)?;
-    for unit in units(access_unit, rule) {
-        found.try_push(unit)?;
-    }
-    Ok(found)
-}
-
 impl SendingEndpoint {
-    /// Makes the packets of the units of an access unit in Annex B form, none of which is left out,
-    /// which take the place of the last call's. The first unit that can't go is named, and nothing is
-    /// sent then.
+    /// The units of an access unit in Annex B form that are sent, as slices of it.
+    fn sent_units<'a>(&self, access_unit: &'a [u8]) -> Result<Vec<&'a [u8]>, AllocError> {
+        let codec = self.packetizer.codec();
+        sent_units(codec, self.settings.delimiters, access_unit)
+    }
+
+    /// An error of sending them, a refused unit by its place among all units of the access unit.
+    fn refused_among_all(&self, access_unit: &[u8], error: EveryUnitError) -> EveryUnitError {
+        let codec = self.packetizer.codec();
+        refused_among_all(codec, self.settings.delimiters, access_unit, error)
+    }
+
+    /// Makes the packets of the units of an access unit in Annex B form, of which none is left out but
+    /// delimiters and filler where the settings say so; they take the place of the last call's. The
+    /// first unit that can't go is named, and nothing is sent then.
     pub fn packetize_units(
         &mut self,
         mtu: usize,
         access_unit: &[u8],
     ) -> Result<(), EveryUnitError> {
-        let units = units_of(&self.packetizer, access_unit)?;
+        let units = self.sent_units(access_unit)?;
+        let packing = self.settings.packing;
         self.spare.clear();
-        self.packetizer
-            .packetize_units_into(self.packing, mtu, &units, &mut self.spare)?;
-        mem::swap(&mut self.packets, &mut self.spare);
-        Ok(())
+        match self
+            .packetizer
+            .packetize_units_into(packing, mtu, &units, &mut self.spare)
+        {
+            Ok(()) => {
+                mem::swap(&mut self.packets, &mut self.spare);
+                Ok(())
+            }
+            Err(error) => Err(self.refused_among_all(access_unit, error)),
+        }
     }
 
     /// How much memory the packets of the units of an access unit take, each behind so many bytes.
@@ -52,9 +53,12 @@ impl SendingEndpoint {
         access_unit: &[u8],
         headroom: usize,
     ) -> Result<PacketsSize, EveryUnitError> {
-        let units = units_of(&self.packetizer, access_unit)?;
-        self.packetizer
-            .units_size(self.packing, mtu, &units, headroom)
+        let units = self.sent_units(access_unit)?;
+        let packing = self.settings.packing;
+        match self.packetizer.units_size(packing, mtu, &units, headroom) {
+            Ok(size) => Ok(size),
+            Err(error) => Err(self.refused_among_all(access_unit, error)),
+        }
     }
 
     /// Copies the packets of the units of an access unit straight to memory where they fit; else
@@ -67,8 +71,14 @@ impl SendingEndpoint {
         to: &mut [u8],
         ends: &mut [usize],
     ) -> Result<Placement, EveryUnitError> {
-        let units = units_of(&self.packetizer, access_unit)?;
-        self.packetizer
-            .packetize_units_to_memory(self.packing, mtu, &units, headroom, to, ends)
+        let units = self.sent_units(access_unit)?;
+        let packing = self.settings.packing;
+        let made = self
+            .packetizer
+            .packetize_units_to_memory(packing, mtu, &units, headroom, to, ends);
+        match made {
+            Ok(placement) => Ok(placement),
+            Err(error) => Err(self.refused_among_all(access_unit, error)),
+        }
     }
 }

@@ -7,18 +7,17 @@ use crate::proved::h26x_codes::code::may_have_donl;
 use crate::proved::h26x_codes::copy::{bytes_from, copy_packets};
 use crate::proved::h26x_core::PacketError;
 use crate::proved::h26x_handles::headers::{headers_wanted, set_headers, set_placed_headers};
-use crate::proved::h26x_packetizer::{PacketBuffer, Packing, Placement};
+use crate::proved::h26x_handles::settings::SendingSettings;
+use crate::proved::h26x_packetizer::{PacketBuffer, Placement};
 use core::mem;
 
-/// A packetizer of a codec, the packets of its last call, whether aggregates of H.265 get the header
-/// of their units, and which units of an access unit share packets.
+/// A packetizer of a codec, the packets of its last call, and its settings.
 pub struct SendingEndpoint {
     /// The packetizer.
     pub packetizer: AnyPacketizer,
     // As the packetizer has it.
     has_donl: bool,
-    lowest_header: bool,
-    pub(crate) packing: Packing,
+    pub(crate) settings: SendingSettings,
     pub(crate) packets: PacketBuffer,
     // Where a call writes: the packets of before stay until it is carried out.
     pub(crate) spare: PacketBuffer,
@@ -30,8 +29,7 @@ impl SendingEndpoint {
         SendingEndpoint {
             packetizer: AnyPacketizer::new(codec, has_donl),
             has_donl: has_donl && may_have_donl(codec),
-            lowest_header: false,
-            packing: Packing::Together,
+            settings: SendingSettings::new(),
             packets: PacketBuffer::new(0),
             spare: PacketBuffer::new(0),
         }
@@ -42,8 +40,7 @@ impl SendingEndpoint {
         Ok(SendingEndpoint {
             packetizer: self.packetizer.try_clone()?,
             has_donl: self.has_donl,
-            lowest_header: self.lowest_header,
-            packing: self.packing,
+            settings: self.settings,
             packets: PacketBuffer::new(0),
             spare: PacketBuffer::new(0),
         })
@@ -65,19 +62,23 @@ impl SendingEndpoint {
         self.packetizer.with_max_packet_size(bytes);
     }
 
-    /// Sets whether aggregates of H.265 get the header of their units (RFC 7798, 4.4.2).
-    pub fn with_lowest_header(&mut self, lowest_header: bool) {
-        self.lowest_header = lowest_header;
+    /// Its settings.
+    pub fn settings(&self) -> SendingSettings {
+        self.settings
     }
 
-    /// Sets which units of an access unit share packets, where every unit goes.
-    pub fn with_packing(&mut self, packing: Packing) {
-        self.packing = packing;
+    /// Sets them.
+    pub(crate) fn set(&mut self, settings: SendingSettings) {
+        self.settings = settings;
     }
 
     /// Where aggregates get the header of their units: whether packets bear decoding order numbers.
     fn headers(&self) -> Option<bool> {
-        headers_wanted(self.lowest_header, self.packetizer.codec(), self.has_donl)
+        headers_wanted(
+            self.settings.lowest_header,
+            self.packetizer.codec(),
+            self.has_donl,
+        )
     }
 
     /// Makes the packets of a payload, which take the place of the last call's.
