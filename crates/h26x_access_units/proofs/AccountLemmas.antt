@@ -375,7 +375,7 @@ parts_handed kept x h w p exact = IsPermutation-trans kept (x ++ (h ++ (p ∷ w)
     (IsPermutation-append_right x (h ++ (p ∷ w)) ((p ∷ h) ++ w) (IsPermutation-middle h p w))
 
 -- a packet that is due is the first that waits
-first_is_due : (pressed : Bool) (window : ℕ) (due : Option ℕ) (held : Packets) (p : Packet) → cond pressed (slice_get held 0) (first_ready window due held) ≡ Some p → slice_get held 0 ≡ Some p
+pub first_is_due : (pressed : Bool) (window : ℕ) (due : Option ℕ) (held : Packets) (p : Packet) → cond pressed (slice_get held 0) (first_ready window due held) ≡ Some p → slice_get held 0 ≡ Some p
 first_is_due true window due held p is = is
 first_is_due false window None [] p is = absurd (let bad = is in cc)
 first_is_due false window (Some due) [] p is = absurd (let bad = is in cc)

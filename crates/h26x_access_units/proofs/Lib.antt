@@ -17,3 +17,9 @@ pub mod WholeSentLemmas
 pub mod AccountLemmas
 pub mod SentLemmas
 pub mod UnitsSentLemmas
+pub mod SteadyLemmas
+pub mod OpenUnitLemmas
+pub mod ToldWholeLemmas
+pub mod ToldCallLemmas
+pub mod MetLemmas
+pub mod LosslessLemmas

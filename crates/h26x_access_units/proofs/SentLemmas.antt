@@ -38,14 +38,14 @@ one_more (x ∷ xs) zero (suc m) (suc n) (suc k) n_is k_is lt = ap (λ (l : List
 one_more (x ∷ xs) (suc i) m n zero n_is k_is lt = absurd (omega (arith, k_is))
 one_more (x ∷ xs) (suc i) m n (suc k) n_is k_is lt = one_more xs i m n k n_is (omega (arith, k_is)) (omega (arith, lt))
 
-place_same : (first i j : ℕ) → i < 65536 → j < 65536 → sent_number first i ≡ sent_number first j → i ≡ j
+pub place_same : (first i j : ℕ) → i < 65536 → j < 65536 → sent_number first i ≡ sent_number first j → i ≡ j
 place_same first i j small_i small_j e = omega (arith, small_i, small_j, e)
 
-next_place : (first i : ℕ) → next_sequence_number (sent_number first i) ≡ sent_number first (i + 1)
+pub next_place : (first i : ℕ) → next_sequence_number (sent_number first i) ≡ sent_number first (i + 1)
 next_place first i = omega arith
 
 -- a place that is ahead by less than half of the circle is behind none
-ahead_place : (first k place : ℕ) → k < 32768 → place < 32768 → distance_ahead (sent_number first (k + 1)) (sent_number first place) < 32768 → k < place
+pub ahead_place : (first k place : ℕ) → k < 32768 → place < 32768 → distance_ahead (sent_number first (k + 1)) (sent_number first place) < 32768 → k < place
 ahead_place first k place small_k small e = omega (arith, small_k, small, e)
 
 marker_of : (m t : Bool) → t ≡ false → (m || t) ≡ true → m ≡ true

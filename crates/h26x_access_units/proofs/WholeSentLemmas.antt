@@ -47,16 +47,16 @@ none_true : (b : Bool) → (b && false) ≡ true → ⊥
 none_true true e = let bad = e in cc
 none_true false e = let bad = e in cc
 
-left_true : (a b : Bool) → (a && b) ≡ true → a ≡ true
+pub left_true : (a b : Bool) → (a && b) ≡ true → a ≡ true
 left_true true b e = refl
 left_true false b e = absurd (let bad = e in cc)
 
-right_true : (a b : Bool) → (a && b) ≡ true → b ≡ true
+pub right_true : (a b : Bool) → (a && b) ≡ true → b ≡ true
 right_true true b e = e
 right_true false b e = absurd (let bad = e in cc)
 
 -- what an answer tells of numbers that are missing
-told_is : (m : ℕ) (long : Bool) → missing_told (answer_by_missing m long) ≡ m
+pub told_is : (m : ℕ) (long : Bool) → missing_told (answer_by_missing m long) ≡ m
 told_is m true = refl
 told_is m false = elim (m == 0) as (λ b. (m == 0) ≡ b → missing_told (cond b received.InOrder (received.Gap m)) ≡ m) [
   | true ↦ λ e. grind (arith, nat_tests)
@@ -73,13 +73,13 @@ skip_told : (expected : Option ℕ) (number : ℕ) → is_late expected number �
 skip_told expected number timely = rw timely (told_is (missing_count expected number) false)
 
 -- none is missing before the number that is due
-none_ahead : (due number : ℕ) → due < 65536 → number < 65536 → distance_ahead due number ≡ 0 → number ≡ due
+pub none_ahead : (due number : ℕ) → due < 65536 → number < 65536 → distance_ahead due number ≡ 0 → number ≡ due
 none_ahead due number small_due small e = omega (arith, small_due, small, e)
 
-next_small : (number : ℕ) → next_sequence_number number < 65536
+pub next_small : (number : ℕ) → next_sequence_number number < 65536
 next_small number = omega arith
 
-same_number : (x y : ℕ) → (x == y) ≡ true → x ≡ y
+pub same_number : (x y : ℕ) → (x == y) ≡ true → x ≡ y
 same_number x y e = grind (arith, nat_tests)
 
 first_true : (a b : Bool) → a ≡ true → (a || b) ≡ true
@@ -342,7 +342,7 @@ module _ (state : DepacketizerState) (kept : Packets) (told : List ℕ) where
     slice = slice_earlier p it.slice (ahead_of it.due p.0 (subst (λ (e : Option ℕ). is_late e p.0 ≡ false) it.expects timely));
   }
 
-  broken_at : (u : Option AccessUnitValue) (timestamp : ℕ) → is_unit_at (option_map (whole_if false) u) timestamp ≡ is_unit_at u timestamp
+  pub broken_at : (u : Option AccessUnitValue) (timestamp : ℕ) → is_unit_at (option_map (whole_if false) u) timestamp ≡ is_unit_at u timestamp
   broken_at None timestamp = refl
   broken_at (Some u) timestamp = refl
 
@@ -743,10 +743,10 @@ module _ (state : DepacketizerState) (kept : Packets) (told : List ℕ) where
         (ended_more (p ∷ handed) (ended_by a q) (numbers_ended n.unit ts) (if m then Some (counted n.unit) else None) (own_ended m) (other_ended a.unit n.unit is_kept same core.opened) (own_marked m refl marker))
 
   -- the depacketizer is of the same kind whatever its run
-  kind_with : (r : DepacketizerState) → r ≡ state_with_run state r.run → (run : Option (List ℕ)) → state_with_run r run ≡ state_with_run state run
+  pub kind_with : (r : DepacketizerState) → r ≡ state_with_run state r.run → (run : Option (List ℕ)) → state_with_run r run ≡ state_with_run state run
   kind_with r kind run = ap (λ (x : DepacketizerState). state_with_run x run) kind
 
-  same_broken : (u : Option AccessUnitValue) (k : Option AccessUnitNumbers) → SameStamp u k → SameStamp (option_map (whole_if false) u) k
+  pub same_broken : (u : Option AccessUnitValue) (k : Option AccessUnitNumbers) → SameStamp u k → SameStamp (option_map (whole_if false) u) k
   same_broken None None same = tt
   same_broken None (Some k) same = absurd same
   same_broken (Some u) None same = absurd same
@@ -878,7 +878,7 @@ module _ (state : DepacketizerState) (kept : Packets) (told : List ℕ) where
   no_other false error extra packet (inr is) e = let same : error ≡ OutOfMemory = cc in let bad = subst (λ (x : PacketError). bears_no_unit extra x packet ≡ true) same e in cc
 
   -- one that was refused so bears nothing
-  refused_bare : (avc : Bool) (run : Option (List ℕ)) (reading : Reading) (extra : CodecExtra) (packet : List ℕ) (error : PacketError) → IsReadingOutcome avc run reading (Err error) → bears_no_unit extra error packet ≡ true → reads_no_unit extra packet reading ≡ true
+  pub refused_bare : (avc : Bool) (run : Option (List ℕ)) (reading : Reading) (extra : CodecExtra) (packet : List ℕ) (error : PacketError) → IsReadingOutcome avc run reading (Err error) → bears_no_unit extra error packet ≡ true → reads_no_unit extra packet reading ≡ true
   refused_bare avc run (Refused e) extra packet error is bears = let same : error ≡ e = cc in subst (λ (x : PacketError). bears_no_unit extra x packet ≡ true) same bears
   refused_bare avc run (Single unit don) extra packet error is bears = absurd (no_other _ error extra packet is bears)
   refused_bare avc run (Aggregate units) extra packet error is bears = absurd (no_other _ error extra packet is bears)
@@ -886,7 +886,7 @@ module _ (state : DepacketizerState) (kept : Packets) (told : List ℕ) where
   refused_bare avc run (Paci head fields extension body) extra packet error is bears = absurd (no_other _ error extra packet is bears)
 
   -- what was answered for a packet that isn't late
-  answered_so : (most : ℕ) (s : SequencedDepacketization) (number : ℕ) (packet : List ℕ) (answer : Result Received PacketError) → is_late s.expected number ≡ false → IsSequencedAnswer most s number packet answer →
+  pub answered_so : (most : ℕ) (s : SequencedDepacketization) (number : ℕ) (packet : List ℕ) (answer : Result Received PacketError) → is_late s.expected number ≡ false → IsSequencedAnswer most s number packet answer →
       IsReadingOutcome s.at_work.state.is_avc (with_run_if (is_expected s.expected number) s.at_work).state.run (s.at_work.state.format.read packet) (as_outcome answer) × IfOk answer (λ it. it ≡ taken_packet_answer most s number packet)
   answered_so most s number packet answer timely it = subst (λ (b : Bool). MatchBool b (answer ≡ Ok (received.Late (distance_behind s.expected number)))
       (IsPacketOutcome (with_run_if (is_expected s.expected number) s.at_work) packet (as_outcome answer) × IfOk answer (λ it. it ≡ taken_packet_answer most s number packet))) timely it
@@ -983,13 +983,13 @@ module _ (state : DepacketizerState) (kept : Packets) (told : List ℕ) where
   own_stamp x = grind (arith, nat_tests)
 
   -- where a packet begins another access unit right behind it
-  record Ends (a : Assembly) (has_slice : Bool) (q : Packet) : Type 0 where
-    slice : has_slice ≡ true
-    of_unit : is_unit_at a.unit q.1.timestamp ≡ true
-    next : is_expected a.expected q.0 ≡ true
-    begins : begins_unit a.state.format q.1.payload ≡ true
+  pub record Ends (a : Assembly) (has_slice : Bool) (q : Packet) : Type 0 where
+    pub slice : has_slice ≡ true
+    pub of_unit : is_unit_at a.unit q.1.timestamp ≡ true
+    pub next : is_expected a.expected q.0 ≡ true
+    pub begins : begins_unit a.state.format q.1.payload ≡ true
 
-  content_ends : (a : Assembly) (framing : Framing) (q : Packet) → ends_before a framing q ≡ true → is_behind_missing a q.0 ≡ false → Ends a framing.has_slice q
+  pub content_ends : (a : Assembly) (framing : Framing) (q : Packet) → ends_before a framing q ≡ true → is_behind_missing a q.0 ≡ false → Ends a framing.has_slice q
   content_ends a framing q e present = by (bears_nothing q.1.payload) (is_unit_at a.unit q.1.timestamp) (is_in_reach a q.0) refl e present
     where
       last : (t h b : Bool) → (not t && (h && b)) ≡ true → (h ≡ true) × (b ≡ true)

@@ -16,6 +16,7 @@ pub mod Decodable
 pub mod Account
 pub mod WholeSent
 pub mod UnitsSent
+pub mod ToldWhole
 pub mod Missing
 pub mod Nacks
 pub mod Limits

@@ -1,6 +1,6 @@
 //! Laws of the definitions, each the contract of a function without a result.
 
-ghost use Rattle.std.specs.Prelude.{◌≡◌, ◌≤◌, ◌<◌, ◌^◌, ◌==◌, true, ℕ, Bool, List, [], ◌∷◌, ◌++◌, Option, Some, length, map};
+ghost use Rattle.std.specs.Prelude.{◌≡◌, ◌≤◌, ◌<◌, ◌^◌, ◌==◌, true, ℕ, Bool, List, [], ◌∷◌, ◌++◌, Option, Some, None, length, map};
 ghost use Rattle.std.specs.List.{list_any, Contains};
 ghost use Rattle.h26x_model.specs.Payload.Facts.{IsPayloadFormat};
 ghost use Rattle.h26x_model.specs.Receive.DepacketizerState.{DepacketizerState};
@@ -15,8 +15,9 @@ ghost use Rattle.h26x_access_units.specs.ReceivedAccessUnit.{ReceivedAccessUnitV
 ghost use Rattle.h26x_access_units.specs.Reception.{Reception, fresh_reception, begun_reception, restarted, with_settings, ended_reception, reception_answer, after_reception, IsPushed, IsNext};
 ghost use Rattle.h26x_access_units.specs.Decodable.{GivenUnit, IsCleanWhereDecodable, WereGiven, IsGivenBehind};
 ghost use Rattle.h26x_access_units.specs.Account.{ReceiverCall, NextCall, AreReceiverCalls, IsAccounted, kept_packets};
-ghost use Rattle.h26x_access_units.specs.WholeSent.{told_numbers, IsToldWhole, CameFromSender, WasSent};
+ghost use Rattle.h26x_access_units.specs.WholeSent.{told_numbers, IsToldWhole, IsSender, CameFromSender, WasSent};
 ghost use Rattle.h26x_access_units.specs.UnitsSent.{AreNeighboursApart, IsOneSent, IsWrittenAsSent, call_units, told_unit};
+ghost use Rattle.h26x_access_units.specs.ToldWhole.{all_deeds, are_told_first, AreOfSender, settings_set, IsUnitSent, WereAllTaken, WereTakenWithoutLoss, CanBeWritten, WasToldWhole};
 ghost use Rattle.h26x_access_units.specs.Passed.{is_told_taken, AreNumbers, AreSoonBehind};
 ghost use Rattle.h26x_access_units.specs.declared.nacks.Nack.{Nack};
 ghost use Rattle.h26x_access_units.specs.Nacks.{nacks_now, nack_among, AreNumbersInOrder};
@@ -145,6 +146,53 @@ pub fn what_is_told_whole_was_sent()
 {
     model_laws::depacketizers_go_on();
 }
+
+/// Sent means told whole. Of a sender whose access units are told apart, an access unit all of whose
+/// packets were taken, one right behind the other from its beginning to its end, is given out and told
+/// whole, and its bytes are what a depacketizer writes of all of them: once `next` was called until
+/// none that ended is left.
+pub fn what_was_sent_and_taken_is_told_whole()
+    ensures { (config : AccessUnitConfig) (state : DepacketizerState) (calls : List ReceiverCall)
+        (s : Reception) (sent : List RtpBody) (first place count : ℕ)
+        (are : AreReceiverCalls (fresh_reception config state) calls s) →
+        IsPayloadFormat state.format → IsSender state sent →
+        AreOfSender sent first (all_deeds are) → IsUnitSent sent place count →
+        WereAllTaken state sent first place count (all_deeds are) →
+        CanBeWritten state sent place count (config ∷ settings_set calls) →
+        s.assembler.ended ≡ [] → WasToldWhole state sent first place count calls }
+{
+    model_laws::depacketizers_go_on();
+}
+
+/// So it is of a stream without a loss: where its packets were taken one after the other, from the
+/// first one on, each access unit among them that has ended is given out and told whole.
+pub fn access_units_without_loss_are_told_whole()
+    ensures { (config : AccessUnitConfig) (state : DepacketizerState) (calls : List ReceiverCall)
+        (s : Reception) (sent : List RtpBody) (first place count : ℕ)
+        (are : AreReceiverCalls (fresh_reception config state) calls s) →
+        IsPayloadFormat state.format → IsSender state sent →
+        AreOfSender sent first (all_deeds are) → IsUnitSent sent place count →
+        WereTakenWithoutLoss state sent first place count (all_deeds are) →
+        CanBeWritten state sent place count (config ∷ settings_set calls) →
+        s.assembler.ended ≡ [] → WasToldWhole state sent first place count calls }
+{
+    model_laws::depacketizers_go_on();
+}
+
+/// No access unit that ended is left once `next` gives out none.
+pub fn none_is_left_once_none_is_given_out()
+    ensures { (now : ℕ) (s new : Reception) → IsNext now s new None → new.assembler.ended ≡ [] }
+{}
+
+/// All that a receiver does is done with packets that were kept: where these are a sender's, and
+/// numbers are told only of a stream that begins, it is done with packets of that sender.
+pub fn what_is_done_is_of_the_sender()
+    ensures { (config : AccessUnitConfig) (state : DepacketizerState) (calls : List ReceiverCall)
+        (s : Reception) (sent : List RtpBody) (first : ℕ)
+        (are : AreReceiverCalls (fresh_reception config state) calls s) →
+        CameFromSender (told_numbers calls) (kept_packets calls) state sent first →
+        are_told_first (all_deeds are) ≡ true → AreOfSender sent first (all_deeds are) }
+{}
 
 /// What was sent so is one of a sender's access units, where each has a packet, and neighbours have
 /// other timestamps: its bytes are what a depacketizer writes of all its packets.

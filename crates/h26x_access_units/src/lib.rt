@@ -23,6 +23,7 @@ mod numbers;
 mod passed;
 mod pushed;
 mod receiver;
+mod told_cases;
 mod unit;
 mod way;
 mod whole_cases;

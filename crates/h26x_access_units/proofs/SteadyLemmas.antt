@@ -1,0 +1,549 @@
+-- What a receiver knows of where access units end, while it takes packets of a sender.
+use Rattle.std.proofs.Common.{◌≡◌, ◌∙◌, ap, sym, subst, refl, ℕ, ◌+◌, ◌≤◌, ◌<◌, Bool, true, false, cond, List, [], ◌∷◌, ◌++◌, length, Option, Some, None, arith, inl, inr, Result, Ok, Err}
+use Rattle.std.specs.Prelude.{◌==◌, ◌||◌, ◌&&◌, nat_lt, MatchBool, if◌then◌else◌, not, is_some}
+use Rattle.std.specs.Option.{option_map}
+use Rattle.std.proofs.lemmas.List.{append-nil}
+use Rattle.std.proofs.lemmas.Bool.Decides.{nat_tests}
+use Rattle.h26x_core.specs.Sequence.{next_sequence_number, distance_ahead, is_late, missing_count, distance_behind, is_expected}
+use Rattle.h26x_core.specs.declared.error.PacketError.{PacketError}
+use Rattle.h26x_core.specs.declared.error.PacketError.TheVariants.{OutOfMemory}
+use Rattle.h26x_model.specs.Receive.DepacketizerState.{DepacketizerState, IsPacketOutcome}
+use Rattle.h26x_model.specs.Receive.RunLimit.{run_len, state_with_run}
+use Rattle.h26x_receiver.specs.declared.received.Received.{Received}
+use Rattle.h26x_receiver.specs.declared.received.Received.TheVariants as received
+use Rattle.h26x_receiver.specs.Sequenced.{after_taken_packet, after_sequenced_packet, is_taken, taken_packet_answer, answer_by_missing, skip_answer, SequencedDepacketization, with_run_if}
+use Rattle.h26x_reorder.specs.Rtp.{RtpBody}
+use Rattle.h26x_assembler.specs.AccessUnit.{AccessUnitValue, Assembly, empty_unit, whole_if, without_text, is_unit_at, unit_at, taken_by, unit_with, unit_within, with_unit_within, after_taken_rtp, behind_missing, given_out, after_finishing, IsAssemblyAnswer, open_assembly, none_open}
+use Rattle.h26x_access_units.specs.declared.numbers.AccessUnitNumbers.{AccessUnitNumbers}
+use Rattle.h26x_access_units.specs.declared.numbers.NumbersSoFar.{NumbersSoFar}
+use Rattle.h26x_access_units.specs.declared.framing.Framing.{Framing}
+use Rattle.h26x_access_units.specs.declared.decoder.DecoderState.{DecoderState}
+use Rattle.h26x_access_units.specs.Numbers.{bears_nothing, missing_told, missing_sum, is_timestamp, unit_numbers, after_gap, after_packet, numbers_still, after_missing, after_last, begun_numbers_at, fresh_numbers}
+use Rattle.h26x_access_units.specs.Framing.{believes, framing_marked, fresh_framing}
+use Rattle.h26x_access_units.specs.Decoder.{fresh_decoder}
+use Rattle.h26x_access_units.specs.Reception.{IsAnswerTo, assembly_after, is_no_unit, begun_for, expected_for, marker_forgotten, framing_of, believed, framing_answered, numbers_answered, ends_before, is_behind_missing}
+use Rattle.h26x_access_units.specs.WholeSent.{reads_no_unit, has_no_text, begins_unit, bears_slice, sent_at, sent_number, IsSentAt, IsSender}
+use Rattle.h26x_access_units.specs.ToldWhole.{Deed, TookPacket, PassedPacket, EndedBefore, EndedStream, ToldFirst, DroppedAll, packet_deed, is_stream_new, took_none, open_stamp}
+use Rattle.h26x_access_units.proofs.WholeSentLemmas.{told_is, same_number, left_true, refused_bare, answered_so, kind_with, broken_at, content_ends}
+use Rattle.h26x_access_units.proofs.SentLemmas.{place_same, next_place, ahead_place}
+
+abbrev Packet : Type 0
+Packet = ℕ × RtpBody
+
+abbrev answer_of : Received → Result Received PacketError
+answer_of x = Ok x
+
+abbrev refusal : PacketError → Result Received PacketError
+refusal error = Err error
+
+-- the access unit that is open and its numbers go together
+abbrev pub SameStamp : Option AccessUnitValue → Option AccessUnitNumbers → Type 0
+SameStamp None None = Unit {0}
+SameStamp (Some u) (Some k) = u.timestamp ≡ k.timestamp
+SameStamp None (Some k) = ⊥
+SameStamp (Some u) None = ⊥
+
+-- what the last deed left
+abbrev pub IsLast : List Deed → Assembly → NumbersSoFar → Type 0
+IsLast [] a n = (a.expected ≡ None) × (n.skipped_gap ≡ 0)
+IsLast (EndedStream ∷ ds) a n = (a.expected ≡ None) × (n.skipped_gap ≡ 0)
+IsLast (DroppedAll ∷ ds) a n = (a.expected ≡ None) × (n.skipped_gap ≡ 0)
+IsLast (TookPacket p ∷ ds) a n = (a.expected ≡ Some (next_sequence_number p.0)) × (a.is_gap ≡ false) × (n.has_begun ≡ true) × (n.skipped_gap ≡ 0)
+IsLast (ToldFirst number ∷ ds) a n = (a.expected ≡ Some number) × (a.is_gap ≡ false) × (n.has_begun ≡ true) × (n.skipped_gap ≡ 0)
+IsLast (deed ∷ ds) a n = Unit {0}
+
+not_so : (b : Bool) → not b ≡ true → b ≡ false
+not_so true e = absurd (let bad = e in cc)
+not_so false e = refl
+
+pub own_same : (x : ℕ) → (x == x) ≡ true
+own_same x = grind (arith, nat_tests)
+
+pub unit_stamp : (u : Option AccessUnitValue) (ts : ℕ) → (unit_at u ts).timestamp ≡ ts
+unit_stamp None ts = refl
+unit_stamp (Some u) ts = elim (u.timestamp == ts) as (λ b. (u.timestamp == ts) ≡ b → (cond b u (empty_unit ts)).timestamp ≡ ts) [
+  | true ↦ λ e. same_number u.timestamp ts e
+  | false ↦ λ e. refl
+] refl
+
+pub counted_stamp : (n : NumbersSoFar) (k : Option AccessUnitNumbers) (q : Packet) (missing : ℕ) → (unit_numbers (record n { unit = k }) q missing).timestamp ≡ q.1.timestamp
+counted_stamp n None q missing = refl
+counted_stamp n (Some k) q missing = elim (k.timestamp == q.1.timestamp) as (λ b. (k.timestamp == q.1.timestamp) ≡ b → (unit_numbers (record n { unit = Some k }) q missing).timestamp ≡ q.1.timestamp) [
+  | true ↦ λ e. rw e (same_number k.timestamp q.1.timestamp e)
+  | false ↦ λ e. rw e refl
+] refl
+
+module _ (state : DepacketizerState) (sent : List RtpBody) (first : ℕ) (sender : IsSender state sent) where
+  -- behind an access unit of this timestamp that ended by itself the next packet has another one
+  pub record Closed (expected : Option ℕ) (x : ℕ) : Type 0 where
+    pub at : ℕ
+    pub within : at < length sent
+    pub expects : expected ≡ Some (sent_number first (at + 1))
+    pub other : at + 1 < length sent → (sent_at sent (at + 1)).timestamp ≡ x → ⊥
+
+  -- a slice of this timestamp is before the number that is expected
+  pub record Sliced (expected : Option ℕ) (x : ℕ) : Type 0 where
+    pub last : ℕ
+    pub within : last < length sent
+    pub expects : expected ≡ Some (sent_number first (last + 1))
+    pub at : ℕ
+    pub before : at ≤ last
+    pub stamp : (sent_at sent at).timestamp ≡ x
+    pub bears : bears_slice state.format (sent_at sent at).payload ≡ true
+
+  pub record Steady (ds : List Deed) (a : Assembly) (f : Framing) (n : NumbersSoFar) (d : DecoderState) : Type 0 where
+    pub kind : a.state ≡ state_with_run state a.state.run
+    pub closed : a.closed ≡ None
+    pub no_gap : a.expected ≡ None → a.is_gap ≡ false
+    pub marks : f.marks_slices ≡ false
+    pub still : f.stands_still ≡ false
+    pub sync : SameStamp a.unit n.unit
+    pub opened : (x : ℕ) → is_unit_at a.unit x ≡ true → open_stamp ds ≡ Some x
+    pub marked : (x : ℕ) → n.marked ≡ Some x → (a.unit ≡ None) × (a.is_gap ≡ false → Closed a.expected x)
+    pub slices : f.has_slice ≡ true → (x : ℕ) → is_unit_at a.unit x ≡ true → Sliced a.expected x
+    pub last : IsLast ds a n
+    pub none : took_none ds ≡ true → (a.unit ≡ None) × (a.ended ≡ []) × (d.has_begun ≡ false)
+
+  small_place : (j : ℕ) → j < length sent → j + 1 < 65536
+  small_place j lt = let most = sender.few in omega (arith, lt, most)
+
+  has_text : (p : Packet) → IsSentAt sent first p → has_no_text state.format p.1.payload ≡ false
+  has_text p at = subst (λ (b : RtpBody). has_no_text state.format b.payload ≡ false) (sym at.body) (sender.texts at.place at.within)
+
+  left_false : (x y : Bool) → (x || y) ≡ false → x ≡ false
+  left_false true y e = absurd (let bad = e in cc)
+  left_false false y e = refl
+
+  pub text_is : (p : Packet) → IsSentAt sent first p → bears_nothing p.1.payload ≡ false
+  text_is p at = left_false (bears_nothing p.1.payload) (reads_no_unit (state.format.extra false) p.1.payload (state.format.read p.1.payload)) (has_text p at)
+
+  either_true : (x y : Bool) → y ≡ true → (x || y) ≡ true
+  either_true true y e = refl
+  either_true false y e = e
+
+  -- each way in which a packet that is due is met
+  module _ (a : Assembly) (f : Framing) (n : NumbersSoFar) (p : Packet) (most limit : ℕ) (at : IsSentAt sent first p) (kind : a.state ≡ state_with_run state a.state.run) where
+    abbrev b : Assembly
+    b = begun_for a p
+
+    abbrev g : Framing
+    g = framing_of b f n p
+
+    abbrev q : Packet
+    q = believed g p
+
+    abbrev work : SequencedDepacketization
+    work = taken_by b p.1.timestamp
+
+    abbrev Answered : (Deed → Assembly → Framing → NumbersSoFar → Type 0) → Result Received PacketError → Type 0
+    Answered P answer = P (packet_deed p answer) (marker_forgotten (assembly_after most limit b q answer)) (framing_answered f g q answer) (numbers_answered b n g q answer)
+
+    pub due_ways : (P : Deed → Assembly → Framing → NumbersSoFar → Type 0) →
+        (is_late b.expected p.0 ≡ false → P (TookPacket p) (marker_forgotten (with_unit_within limit (after_taken_rtp most b q))) (framing_marked g q.1.marker) (after_packet (numbers_still g.stands_still n) q (missing_count b.expected p.0))) →
+        P (PassedPacket p) (marker_forgotten b) f n →
+        (is_late b.expected p.0 ≡ false → (m : ℕ) → P (PassedPacket p) (marker_forgotten (record (behind_missing b p.0) { expected = Some (next_sequence_number p.0) })) f (after_gap n m)) →
+        (answer : Result Received PacketError) → IsAnswerTo most b q answer → (answer ≡ Err OutOfMemory → ⊥) →
+        P (packet_deed p answer) (marker_forgotten (assembly_after most limit b q answer)) (framing_answered f g q answer) (numbers_answered b n g q answer)
+    due_ways P took late refused answer answered room = by answer (subst (λ (c : Bool). MatchBool c (answer ≡ answer_of (skip_answer b.expected p.0)) (IsAssemblyAnswer most b q answer)) (text_is p at) answered) room
+      where
+        text : bears_nothing p.1.payload ≡ false
+        text = text_is p at
+
+        taken_any : (m : ℕ) (long : Bool) → is_taken (Ok (answer_by_missing m long)) ≡ true
+        taken_any m true = refl
+        taken_any m false = elim (m == 0) as (λ c. is_taken (Ok (cond c received.InOrder (received.Gap m))) ≡ true) [ true ↦ refl | false ↦ refl ]
+
+        took_by : (x : Received) → is_late b.expected p.0 ≡ false → is_taken (Ok x) ≡ true → missing_told x ≡ missing_count b.expected p.0 → Answered P (Ok x)
+        took_by (received.Late k) e on_time told = absurd (let bad = on_time in cc)
+        took_by received.InOrder e on_time told = rw text (subst (λ (m : ℕ). P (TookPacket p) (marker_forgotten (with_unit_within limit (after_taken_rtp most b q))) (framing_marked g q.1.marker) (after_packet (numbers_still g.stands_still n) q m)) (sym told) (took e))
+        took_by (received.Gap k) e on_time told = rw text (subst (λ (m : ℕ). P (TookPacket p) (marker_forgotten (with_unit_within limit (after_taken_rtp most b q))) (framing_marked g q.1.marker) (after_packet (numbers_still g.stands_still n) q m)) (sym told) (took e))
+        took_by (received.TooLong k) e on_time told = rw text (subst (λ (m : ℕ). P (TookPacket p) (marker_forgotten (with_unit_within limit (after_taken_rtp most b q))) (framing_marked g q.1.marker) (after_packet (numbers_still g.stands_still n) q m)) (sym told) (took e))
+
+        late_by : (x : Received) (k : ℕ) → answer_of x ≡ Ok (received.Late k) → Answered P (Ok x)
+        late_by x k is = let same : x ≡ received.Late k = cc in subst (λ (y : Received). Answered P (Ok y)) (sym same) (rw text late)
+
+        by : (answer : Result Received PacketError) → IsAssemblyAnswer most b q answer → (answer ≡ Err OutOfMemory → ⊥) → Answered P answer
+        by (Ok x) (inl is) room = absurd (let bad = is in cc)
+        by (Ok x) (inr is) room = elim (is_late b.expected p.0) as (λ l. is_late b.expected p.0 ≡ l → Answered P (Ok x)) [
+          | true ↦ λ e. late_by x (distance_behind b.expected p.0) (subst (λ (l : Bool). MatchBool l (answer_of x ≡ Ok (received.Late (distance_behind b.expected p.0)))
+              (IsPacketOutcome (with_run_if (is_expected b.expected p.0) work.at_work) p.1.payload (Ok tt) × (x ≡ taken_packet_answer most work p.0 p.1.payload))) e is)
+          | false ↦ λ e.
+              let so = answered_so state [] [] most work p.0 p.1.payload (Ok x) e is in
+              let long = nat_lt most (run_len (after_sequenced_packet work p.0 p.1.payload).state.run) in
+              took_by x e (subst (λ (y : Received). is_taken (Ok y) ≡ true) (sym so.1) (taken_any (missing_count b.expected p.0) long)) (ap missing_told so.1 ∙ told_is (missing_count b.expected p.0) long)
+        ] refl
+        by (Err error) (inl is) room = absurd (room is)
+        by (Err error) (inr is) room = elim (is_late b.expected p.0) as (λ l. is_late b.expected p.0 ≡ l → Answered P (Err error)) [
+          | true ↦ λ e. absurd (let bad : refusal error ≡ Ok (received.Late (distance_behind b.expected p.0)) = subst (λ (l : Bool). MatchBool l (refusal error ≡ Ok (received.Late (distance_behind b.expected p.0)))
+              (IsPacketOutcome (with_run_if (is_expected b.expected p.0) work.at_work) p.1.payload (Err error) × Unit {0})) e is in cc)
+          | false ↦ λ e. elim (is_no_unit b error p.1.payload) as (λ c. is_no_unit b error p.1.payload ≡ c → Answered P (Err error)) [
+            | true ↦ λ none. absurd (
+                let so = answered_so state [] [] most work p.0 p.1.payload (Err error) e is in
+                let bare = refused_bare state [] [] a.state.is_avc (with_run_if (is_expected b.expected p.0) work.at_work).state.run (a.state.format.read p.1.payload) (a.state.format.extra false) p.1.payload error so.0 none in
+                let reads : reads_no_unit (state.format.extra false) p.1.payload (state.format.read p.1.payload) ≡ true = subst (λ (r : DepacketizerState). reads_no_unit (r.format.extra false) p.1.payload (r.format.read p.1.payload) ≡ true) kind bare in
+                let bad = sym (has_text p at) ∙ either_true (bears_nothing p.1.payload) _ reads in cc)
+            | false ↦ λ some. rw (some, e) (refused e _)
+          ] refl
+        ] refl
+
+  -- a packet that begins an access unit, or goes on behind another one, is the one expected, and none is missing before it
+  pub record InTurn (a : Assembly) (p : Packet) : Type 0 where
+    pub present : a.is_gap ≡ false
+    pub expects : expected_for a.expected p ≡ Some p.0
+
+  pub in_turn : (a : Assembly) (f : Framing) (p : Packet) → is_unit_at a.unit p.1.timestamp ≡ false → bears_nothing p.1.payload ≡ false → ends_before a f p ≡ false → is_late (begun_for a p).expected p.0 ≡ false → (a.expected ≡ None → a.is_gap ≡ false) → InTurn a p
+  in_turn a f p other text follows timely no_gap = by a.expected a.is_gap refl refl timely (no_other (bears_nothing p.1.payload) (is_unit_at a.unit p.1.timestamp) _ (is_behind_missing a p.0) text other follows) no_gap
+    where
+      no_other : (c u x y : Bool) → c ≡ false → u ≡ false → (not c && cond u x y) ≡ false → y ≡ false
+      no_other true u x y is_c is_u e = absurd (let bad = is_c in cc)
+      no_other false true x y is_c is_u e = absurd (let bad = is_u in cc)
+      no_other false false x y is_c is_u e = e
+
+      not_gap : (l gap c : Bool) → l ≡ false → ((true && not l) && (gap || not c)) ≡ false → (gap ≡ false) × (c ≡ true)
+      not_gap true gap c is e = absurd (let bad = is in cc)
+      not_gap false true c is e = absurd (let bad = e in cc)
+      not_gap false false true is e = (refl, refl)
+      not_gap false false false is e = absurd (let bad = e in cc)
+
+      by : (e : Option ℕ) (gap : Bool) → a.expected ≡ e → a.is_gap ≡ gap → is_late (expected_for e p) p.0 ≡ false → ((is_some e && not (is_late e p.0)) && (gap || not (is_expected e p.0))) ≡ false → (e ≡ None → gap ≡ false) → InTurn a p
+      by None gap is_e is_gap timely follows no_gap = record {
+        present = is_gap ∙ no_gap refl;
+        expects = ap (λ (e : Option ℕ). expected_for e p) is_e ∙ ap (λ (c : Bool). cond c None (Some p.0)) text;
+      }
+      by (Some x) gap is_e is_gap timely follows no_gap =
+          let both = not_gap (is_late (Some x) p.0) gap (p.0 == x) timely follows in
+          record {
+            present = is_gap ∙ both.0;
+            expects = ap (λ (e : Option ℕ). expected_for e p) is_e ∙ ap Some (sym (same_number p.0 x both.1));
+          }
+
+  -- no access unit that ended by itself has the timestamp of the next packet
+  pub not_closed : (a : Assembly) (f : Framing) (n : NumbersSoFar) (p : Packet) → IsSentAt sent first p → ends_before a f p ≡ false → is_late (begun_for a p).expected p.0 ≡ false → (a.expected ≡ None → a.is_gap ≡ false) →
+      ((x : ℕ) → n.marked ≡ Some x → (a.unit ≡ None) × (a.is_gap ≡ false → Closed a.expected x)) → is_timestamp n.marked p.1.timestamp ≡ false
+  not_closed a f n p at follows timely no_gap marked = by n.marked refl
+    where
+      bad_for : (x : ℕ) → n.marked ≡ Some x → x ≡ p.1.timestamp → ⊥
+      bad_for x is same =
+          let it = marked x is in
+          let none_open : is_unit_at a.unit p.1.timestamp ≡ false = ap (λ (u : Option AccessUnitValue). is_unit_at u p.1.timestamp) it.0 in
+          let turn = in_turn a f p none_open (text_is p at) follows timely no_gap in
+          let closed = it.1 turn.present in
+          let next : Some p.0 ≡ Some (sent_number first (closed.at + 1)) = sym turn.expects ∙ ap (λ (e : Option ℕ). expected_for e p) closed.expects in
+          let number : p.0 ≡ sent_number first (closed.at + 1) = cc in
+          let w = closed.within in
+          let w_at = at.within in
+          let small = small_place closed.at w in
+          let most = sender.few in
+          let place_is : at.place ≡ closed.at + 1 = place_same first at.place (closed.at + 1) (omega (arith, w_at, most)) small (sym at.number ∙ number) in
+          closed.other (omega (arith, place_is, w_at)) (ap (λ (k : ℕ). (sent_at sent k).timestamp) (sym place_is) ∙ ap (λ (b : RtpBody). b.timestamp) (sym at.body) ∙ sym same)
+
+      by : (m : Option ℕ) → n.marked ≡ m → is_timestamp m p.1.timestamp ≡ false
+      by None is = refl
+      by (Some x) is = elim (x == p.1.timestamp) as (λ c. (x == p.1.timestamp) ≡ c → c ≡ false) [
+        | true ↦ λ e. absurd (bad_for x is (same_number x p.1.timestamp e))
+        | false ↦ λ e. refl
+      ] refl
+
+  -- where a packet tells the number that is expected
+  begun_sliced : (p : Packet) (e : Option ℕ) (x : ℕ) → Sliced e x → Sliced (expected_for e p) x
+  begun_sliced p e x it = record { last = it.last; within = it.within; expects = ap (λ (y : Option ℕ). expected_for y p) it.expects; at = it.at; before = it.before; stamp = it.stamp; bears = it.bears }
+
+  -- a packet behind that is not late is behind it too
+  sliced_more : (p : Packet) (e : Option ℕ) (x : ℕ) → IsSentAt sent first p → is_late e p.0 ≡ false → Sliced e x → Sliced (Some (next_sequence_number p.0)) x
+  sliced_more p e x at timely it =
+      let w = it.within in
+      let w_at = at.within in
+      let most = sender.few in
+      let before = it.before in
+      let late : is_late (Some (sent_number first (it.last + 1))) (sent_number first at.place) ≡ false = subst (λ (y : Option ℕ). is_late y (sent_number first at.place) ≡ false) it.expects (subst (λ (y : ℕ). is_late e y ≡ false) at.number timely) in
+      let near : distance_ahead (sent_number first (it.last + 1)) (sent_number first at.place) < 32768 = grind (arith, nat_tests) in
+      let later = ahead_place first it.last at.place (omega (arith, w, most)) (omega (arith, w_at, most)) near in
+      record {
+        last = at.place;
+        within = at.within;
+        expects = ap (λ (y : ℕ). Some (next_sequence_number y)) at.number ∙ ap Some (next_place first at.place);
+        at = it.at;
+        before = omega (arith, later, before);
+        stamp = it.stamp;
+        bears = it.bears;
+      }
+
+  both_false : (x y z : Bool) → x ≡ false → y ≡ false → (x || (y && z)) ≡ false
+  both_false true y z is_x is_y = absurd (let bad = is_x in cc)
+  both_false false true z is_x is_y = absurd (let bad = is_y in cc)
+  both_false false false z is_x is_y = refl
+
+  neither_now : (u x y z : Bool) → x ≡ false → y ≡ false → cond u x (y && z) ≡ false
+  neither_now true x y z is_x is_y = is_x
+  neither_now false x true z is_x is_y = absurd (let bad = is_y in cc)
+  neither_now false x false z is_x is_y = refl
+
+  -- with a packet that is taken
+  module _ (ds : List Deed) (a : Assembly) (f : Framing) (n : NumbersSoFar) (d : DecoderState) (p : Packet) (most limit missing : ℕ) (at : IsSentAt sent first p) (it : Steady ds a f n d) (follows : ends_before a f p ≡ false) (timely : is_late (begun_for a p).expected p.0 ≡ false) where
+    abbrev ts : ℕ
+    ts = p.1.timestamp
+
+    abbrev now_b : Assembly
+    now_b = begun_for a p
+
+    abbrev now_g : Framing
+    now_g = framing_of now_b f n p
+
+    abbrev now_q : Packet
+    now_q = believed now_g p
+
+    abbrev now_n : NumbersSoFar
+    now_n = numbers_still now_g.stands_still n
+
+    abbrev open_now : Bool → Option AccessUnitValue
+    open_now m = unit_within limit (if m then None else Some (unit_with most now_b now_q))
+
+    abbrev counted_now : Bool → Option AccessUnitNumbers
+    counted_now m = if m then None else Some (unit_numbers now_n now_q (missing_sum now_n.skipped_gap missing))
+
+    own_stamp_now : (unit_with most now_b now_q).timestamp ≡ ts
+    own_stamp_now = unit_stamp now_b.unit ts
+
+    sync_now : (m : Bool) → SameStamp (open_now m) (counted_now m)
+    sync_now true = tt
+    sync_now false =
+        let stamps : (unit_with most now_b now_q).timestamp ≡ (unit_numbers now_n now_q (missing_sum now_n.skipped_gap missing)).timestamp = own_stamp_now ∙ sym (counted_stamp now_n now_n.unit now_q (missing_sum now_n.skipped_gap missing)) in
+        elim (nat_lt limit (length (unit_with most now_b now_q).bytes)) as (λ long. (cond long (without_text (unit_with most now_b now_q)) (unit_with most now_b now_q)).timestamp ≡ (unit_numbers now_n now_q (missing_sum now_n.skipped_gap missing)).timestamp) [ true ↦ stamps | false ↦ stamps ]
+
+    open_at : (m : Bool) (x : ℕ) → is_unit_at (open_now m) x ≡ true → ts ≡ x
+    open_at true x e = absurd (let bad = e in cc)
+    open_at false x e = sym own_stamp_now ∙ by (nat_lt limit (length (unit_with most now_b now_q).bytes)) e
+      where
+        by : (long : Bool) → ((cond long (without_text (unit_with most now_b now_q)) (unit_with most now_b now_q)).timestamp == x) ≡ true → (unit_with most now_b now_q).timestamp ≡ x
+        by true e = same_number (unit_with most now_b now_q).timestamp x e
+        by false e = same_number (unit_with most now_b now_q).timestamp x e
+
+    next_is : Some (next_sequence_number p.0) ≡ Some (sent_number first (at.place + 1))
+    next_is = ap (λ (y : ℕ). Some (next_sequence_number y)) at.number ∙ ap Some (next_place first at.place)
+
+    own_stamp_is : (sent_at sent at.place).timestamp ≡ ts
+    own_stamp_is = ap (λ (b : RtpBody). b.timestamp) (sym at.body)
+
+    marked_now : (m : Bool) → (m ≡ true → p.1.marker ≡ true) → (x : ℕ) → (if m then Some ts else None) ≡ Some x → (open_now m ≡ None) × (false ≡ false → Closed (Some (next_sequence_number p.0)) x)
+    marked_now false marker x e = absurd (let bad = e in cc)
+    marked_now true marker x e =
+        let same : ts ≡ x = cc in (
+          refl,
+          λ g. record {
+            at = at.place;
+            within = at.within;
+            expects = next_is;
+            other = λ lt is. sender.marked at.place (subst (λ (b : RtpBody). b.marker ≡ true) at.body (marker refl)) lt (is ∙ sym same ∙ sym own_stamp_is);
+          },
+        )
+
+    sliced_now : (x : ℕ) → ts ≡ x → now_g.has_slice ≡ true → Sliced (Some (next_sequence_number p.0)) x
+    sliced_now x same e = subst (Sliced (Some (next_sequence_number p.0))) same (by (is_unit_at a.unit ts) f.has_slice (bears_slice a.state.format p.1.payload) refl refl refl e)
+      where
+        by : (u h b : Bool) → is_unit_at a.unit ts ≡ u → f.has_slice ≡ h → bears_slice a.state.format p.1.payload ≡ b → ((u && h) || b) ≡ true → Sliced (Some (next_sequence_number p.0)) ts
+        by true true b is_u is_h is_b e = sliced_more p now_b.expected ts at timely (begun_sliced p a.expected ts (it.slices is_h ts is_u))
+        by u h true is_u is_h is_b e = record {
+          last = at.place;
+          within = at.within;
+          expects = next_is;
+          at = at.place;
+          before = omega arith;
+          stamp = own_stamp_is;
+          bears = subst (λ (b : RtpBody). bears_slice state.format b.payload ≡ true) at.body (subst (λ (r : DepacketizerState). bears_slice r.format p.1.payload ≡ true) it.kind is_b);
+        }
+        by true false false is_u is_h is_b e = absurd (let bad = e in cc)
+        by false h false is_u is_h is_b e = absurd (let bad = e in cc)
+
+    pub took_steady : Steady (TookPacket p ∷ ds) (marker_forgotten (with_unit_within limit (after_taken_rtp most now_b now_q))) (framing_marked now_g now_q.1.marker) (after_packet now_n now_q missing) d
+    took_steady =
+        let apart = not_closed a f n p at follows timely it.no_gap it.marked in
+        let m = believes now_g p.1.marker in
+        record {
+          kind = kind_with state [] [] a.state it.kind (after_taken_packet most (taken_by now_b ts) p.0 p.1.payload).at_work.state.run;
+          closed = refl;
+          no_gap = λ e. refl;
+          marks = both_false f.marks_slices (is_timestamp n.marked ts) _ it.marks apart;
+          still = neither_now (is_unit_at a.unit ts) f.stands_still (is_timestamp n.marked ts) _ it.still apart;
+          sync = sync_now m;
+          opened = λ x e. ap Some (open_at m x e);
+          marked = marked_now m (λ e. left_true p.1.marker _ e);
+          slices = λ e x is. sliced_now x (open_at m x is) e;
+          last = (refl, refl, refl, refl);
+          none = λ e. absurd (let bad = e in cc);
+        }
+
+  some_expected : (p : Packet) (e : Option ℕ) → bears_nothing p.1.payload ≡ false → expected_for e p ≡ None → ⊥
+  some_expected p None text is = let bad = sym (ap (λ (c : Bool). cond c None (Some p.0)) text) ∙ is in cc
+  some_expected p (Some x) text is = let bad = is in cc
+
+  closed_begun : (p : Packet) (e : Option ℕ) (x : ℕ) → Closed e x → Closed (expected_for e p) x
+  closed_begun p e x it = record { at = it.at; within = it.within; expects = ap (λ (y : Option ℕ). expected_for y p) it.expects; other = it.other }
+
+  -- with one that is late
+  pub late_steady : (ds : List Deed) (a : Assembly) (f : Framing) (n : NumbersSoFar) (d : DecoderState) (p : Packet) → IsSentAt sent first p → Steady ds a f n d → Steady (PassedPacket p ∷ ds) (marker_forgotten (begun_for a p)) f n d
+  late_steady ds a f n d p at it = record {
+    kind = it.kind;
+    closed = refl;
+    no_gap = λ e. absurd (some_expected p a.expected (text_is p at) e);
+    marks = it.marks;
+    still = it.still;
+    sync = it.sync;
+    opened = it.opened;
+    marked = λ x e. ((it.marked x e).0, λ g. closed_begun p a.expected x ((it.marked x e).1 g));
+    slices = λ h x e. begun_sliced p a.expected x (it.slices h x e);
+    last = tt;
+    none = it.none;
+  }
+
+  broken_sync : (u : Option AccessUnitValue) (k : Option AccessUnitNumbers) → SameStamp u k → SameStamp (option_map (whole_if false) u) k
+  broken_sync None None same = tt
+  broken_sync None (Some k) same = absurd same
+  broken_sync (Some u) None same = absurd same
+  broken_sync (Some u) (Some k) same = same
+
+  -- with one that is refused
+  pub refused_steady : (ds : List Deed) (a : Assembly) (f : Framing) (n : NumbersSoFar) (d : DecoderState) (p : Packet) (m : ℕ) → IsSentAt sent first p → is_late (begun_for a p).expected p.0 ≡ false → Steady ds a f n d →
+      Steady (PassedPacket p ∷ ds) (marker_forgotten (record (behind_missing (begun_for a p) p.0) { expected = Some (next_sequence_number p.0) })) f (after_gap n m) d
+  refused_steady ds a f n d p m at timely it = record {
+    kind = kind_with state [] [] a.state it.kind None;
+    closed = refl;
+    no_gap = λ e. absurd (let bad = e in cc);
+    marks = it.marks;
+    still = it.still;
+    sync = broken_sync a.unit n.unit it.sync;
+    opened = λ x e. it.opened x (sym (broken_at state [] [] a.unit x) ∙ e);
+    marked = λ x e. (ap (option_map (whole_if false)) (it.marked x e).0, λ g. absurd (let bad = g in cc));
+    slices = λ h x e. sliced_more p (begun_for a p).expected x at timely (begun_sliced p a.expected x (it.slices h x (sym (broken_at state [] [] a.unit x) ∙ e)));
+    last = tt;
+    none = λ e. let it_none = it.none e in (ap (option_map (whole_if false)) it_none.0, it_none.1, it_none.2);
+  }
+
+  none_left : (a : Assembly) → a.unit ≡ None → a.ended ≡ [] → (after_finishing a).ended ≡ []
+  none_left a none_open empty = ap (λ (u : Option AccessUnitValue). a.ended ++ given_out false u) none_open ∙ append-nil a.ended ∙ empty
+
+  -- where the access unit that is open ends behind numbers that are missing
+  pub missing_steady : (ds : List Deed) (a : Assembly) (f : Framing) (n : NumbersSoFar) (d : DecoderState) (p : Packet) (m : ℕ) → Steady ds a f n d → Steady (EndedBefore p ∷ ds) (after_finishing a) f (after_missing n m) d
+  missing_steady ds a f n d p m it = record {
+    kind = kind_with state [] [] a.state it.kind None;
+    closed = refl;
+    no_gap = λ e. refl;
+    marks = it.marks;
+    still = it.still;
+    sync = tt;
+    opened = λ x e. absurd (let bad = e in cc);
+    marked = λ x e. absurd (let bad = e in cc);
+    slices = λ h x e. absurd (let bad = e in cc);
+    last = tt;
+    none = λ e. let it_none = it.none e in (refl, none_left a it_none.0 it_none.1, it_none.2);
+  }
+
+  -- or with its stream
+  pub stream_steady : (ds : List Deed) (a : Assembly) (f : Framing) (n : NumbersSoFar) (d : DecoderState) → Steady ds a f n d → Steady (EndedStream ∷ ds) (after_finishing a) fresh_framing (after_last n) d
+  stream_steady ds a f n d it = record {
+    kind = kind_with state [] [] a.state it.kind None;
+    closed = refl;
+    no_gap = λ e. refl;
+    marks = refl;
+    still = refl;
+    sync = tt;
+    opened = λ x e. absurd (let bad = e in cc);
+    marked = λ x e. absurd (let bad = e in cc);
+    slices = λ h x e. absurd (let bad = e in cc);
+    last = (refl, refl);
+    none = λ e. let it_none = it.none e in (refl, none_left a it_none.0 it_none.1, it_none.2);
+  }
+
+  -- none ends by what a packet of its timestamp begins with
+  pub never_by_content : (ds : List Deed) (a : Assembly) (f : Framing) (n : NumbersSoFar) (d : DecoderState) (p : Packet) → IsSentAt sent first p → Steady ds a f n d → ends_before a f p ≡ true → is_behind_missing a p.0 ≡ false → ⊥
+  never_by_content ds a f n d p at it ends present =
+      let facts = content_ends state [] [] a f p ends present in
+      let slice = it.slices facts.slice p.1.timestamp facts.of_unit in
+      let w = slice.within in
+      let w_at = at.within in
+      let most = sender.few in
+      let before = slice.before in
+      let expected : is_expected (Some (sent_number first (slice.last + 1))) p.0 ≡ true = subst (λ (e : Option ℕ). is_expected e p.0 ≡ true) slice.expects facts.next in
+      let number : p.0 ≡ sent_number first (slice.last + 1) = same_number p.0 (sent_number first (slice.last + 1)) expected in
+      let place_is : at.place ≡ slice.last + 1 = place_same first at.place (slice.last + 1) (omega (arith, w_at, most)) (omega (arith, w, most)) (sym at.number ∙ number) in
+      let own : (sent_at sent at.place).timestamp ≡ p.1.timestamp = ap (λ (b : RtpBody). b.timestamp) (sym at.body) in
+      let none_begins = sender.begins slice.at at.place (omega (arith, before, place_is)) at.within (slice.stamp ∙ sym own) slice.bears in
+      let begins = subst (λ (b : RtpBody). begins_unit state.format b.payload ≡ true) at.body (subst (λ (r : DepacketizerState). begins_unit r.format p.1.payload ≡ true) it.kind facts.begins) in
+      let bad = sym none_begins ∙ begins in cc
+
+  -- a new receiver, or one that dropped all
+  pub fresh_steady : (ds : List Deed) (r : DepacketizerState) → r ≡ state_with_run state r.run → IsLast ds (open_assembly r None none_open []) fresh_numbers → Steady ds (open_assembly r None none_open []) fresh_framing fresh_numbers fresh_decoder
+  fresh_steady ds r kind last = record {
+    kind = kind_with state [] [] r kind None;
+    closed = refl;
+    no_gap = λ e. refl;
+    marks = refl;
+    still = refl;
+    sync = tt;
+    opened = λ x e. absurd (let bad = e in cc);
+    marked = λ x e. absurd (let bad = e in cc);
+    slices = λ h x e. absurd (let bad = e in cc);
+    last = last;
+    none = λ e. (refl, refl, refl);
+  }
+
+  pub new_last : (ds : List Deed) (a : Assembly) (n : NumbersSoFar) → is_stream_new ds ≡ true → IsLast ds a n → (a.expected ≡ None) × (n.skipped_gap ≡ 0)
+  new_last [] a n e is = is
+  new_last (EndedStream ∷ ds) a n e is = is
+  new_last (DroppedAll ∷ ds) a n e is = is
+  new_last (TookPacket p ∷ ds) a n e is = absurd (let bad = e in cc)
+  new_last (PassedPacket p ∷ ds) a n e is = absurd (let bad = e in cc)
+  new_last (EndedBefore p ∷ ds) a n e is = absurd (let bad = e in cc)
+  new_last (ToldFirst number ∷ ds) a n e is = absurd (let bad = e in cc)
+
+  pub new_closed : (ds : List Deed) → is_stream_new ds ≡ true → open_stamp ds ≡ None
+  new_closed [] e = refl
+  new_closed (EndedStream ∷ ds) e = refl
+  new_closed (DroppedAll ∷ ds) e = refl
+  new_closed (TookPacket p ∷ ds) e = absurd (let bad = e in cc)
+  new_closed (PassedPacket p ∷ ds) e = absurd (let bad = e in cc)
+  new_closed (EndedBefore p ∷ ds) e = absurd (let bad = e in cc)
+  new_closed (ToldFirst number ∷ ds) e = absurd (let bad = e in cc)
+
+  -- the number of the first is told
+  pub told_steady : (ds : List Deed) (a : Assembly) (f : Framing) (n : NumbersSoFar) (d : DecoderState) (number : ℕ) → is_stream_new ds ≡ true → Steady ds a f n d → Steady (ToldFirst number ∷ ds) (record a { expected = Some number }) f (begun_numbers_at n) d
+  told_steady ds a f n d number new it =
+      let begins = new_last ds a n new it.last in
+      record {
+        kind = it.kind;
+        closed = it.closed;
+        no_gap = λ e. absurd (let bad = e in cc);
+        marks = it.marks;
+        still = it.still;
+        sync = it.sync;
+        opened = it.opened;
+        marked = λ x e. ((it.marked x e).0, λ g. absurd (let closed = (it.marked x e).1 g in let bad = sym begins.0 ∙ closed.expects in cc));
+        slices = λ h x e. absurd (let slice = it.slices h x e in let bad = sym begins.0 ∙ slice.expects in cc);
+        last = (refl, it.no_gap begins.0, refl, begins.1);
+        none = it.none;
+      }
+
+  last_with : (ds : List Deed) (a : Assembly) (units : List AccessUnitValue) (n new : NumbersSoFar) → new.has_begun ≡ n.has_begun → new.skipped_gap ≡ n.skipped_gap → IsLast ds a n → IsLast ds (record a { ended = units }) new
+  last_with [] a units n new begun gap is = (is.0, gap ∙ is.1)
+  last_with (EndedStream ∷ ds) a units n new begun gap is = (is.0, gap ∙ is.1)
+  last_with (DroppedAll ∷ ds) a units n new begun gap is = (is.0, gap ∙ is.1)
+  last_with (TookPacket p ∷ ds) a units n new begun gap is = (is.0, is.1, begun ∙ is.2, gap ∙ is.3)
+  last_with (ToldFirst number ∷ ds) a units n new begun gap is = (is.0, is.1, begun ∙ is.2, gap ∙ is.3)
+  last_with (PassedPacket p ∷ ds) a units n new begun gap is = tt
+  last_with (EndedBefore p ∷ ds) a units n new begun gap is = tt
+
+  -- once the first that ended is gone
+  pub gone_steady : (ds : List Deed) (a : Assembly) (f : Framing) (n new : NumbersSoFar) (d later : DecoderState) (unit : AccessUnitValue) (units : List AccessUnitValue) → a.ended ≡ unit ∷ units → new.has_begun ≡ n.has_begun → new.skipped_gap ≡ n.skipped_gap → new.marked ≡ n.marked → SameStamp a.unit new.unit →
+      Steady ds a f n d → Steady ds (record a { ended = units }) f new later
+  gone_steady ds a f n new d later unit units is begun gap marked sync it = record {
+    kind = it.kind;
+    closed = it.closed;
+    no_gap = it.no_gap;
+    marks = it.marks;
+    still = it.still;
+    sync = sync;
+    opened = it.opened;
+    marked = λ x e. it.marked x (sym marked ∙ e);
+    slices = it.slices;
+    last = last_with ds a units n new begun gap it.last;
+    none = λ e. absurd (let bad = sym is ∙ (it.none e).1 in cc);
+  }
