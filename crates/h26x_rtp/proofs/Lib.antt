@@ -8,3 +8,5 @@ pub mod RtxLemmas
 pub mod RedLawLemmas
 pub mod StatisticsLemmas
 pub mod FeedbackLemmas
+pub mod NackLemmas
+pub mod NackLawLemmas

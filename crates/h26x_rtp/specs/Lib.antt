@@ -12,3 +12,5 @@ pub mod Red
 pub mod RedViews
 pub mod Statistics
 pub mod Feedback
+pub mod Nack
+pub mod NackViews

@@ -6,14 +6,15 @@ ghost use Rattle.h26x_rtp.specs.Datagram.{datagram_bytes, IsPadding};
 ghost use Rattle.h26x_rtp.specs.Reading.{datagram_of};
 ghost use Rattle.h26x_rtp.specs.Elements.{extension_elements, elements_in, element_bytes, form_of};
 ghost use Rattle.h26x_rtp.specs.Feedback.{PictureLossFits, IntraRequestFits, ReceiverReportFits, picture_loss_bytes, picture_loss_of, intra_request_bytes, intra_request_of, receiver_report_bytes, receiver_report_of, lost_word, lost_in};
-ghost use Rattle.h26x_rtp.specs.Memory.{overwritten};
+ghost use Rattle.h26x_rtp.specs.Memory.{filled_from, overwritten};
+ghost use Rattle.h26x_rtp.specs.Nack.{IsNackWritten, NackFits, nack_bytes, nack_count, nack_of, nack_pairs, pair_numbers, pairs_room};
 ghost use Rattle.h26x_rtp.specs.Red.{red_of, red_bytes, block_header};
-ghost use Rattle.h26x_rtp.specs.Rtcp.{IsRtcp};
+ghost use Rattle.h26x_rtp.specs.Rtcp.{IsRtcp, first_rtcp};
 ghost use Rattle.h26x_rtp.specs.Rtx.{rtx_bytes, retransmission_of};
 ghost use Rattle.h26x_rtp.specs.Statistics.{AreNear, AreAllCounted, after_number, after_numbers, after_report, no_statistics, is_counted, extended_highest, lost_of, fraction_of, jitter_after, report_block};
 
 use crate::elements::ElementForm;
-use crate::error::RtpError;
+use crate::error::{RtpError, RtpWriteError};
 use crate::feedback::{FullIntraRequest, PictureLoss, ReceiverReport};
 use crate::red::RedError;
 
@@ -136,6 +137,28 @@ pub fn rtcp_by_its_second_byte()
     ensures before { IsRtcp (0x80 ∷ 0xbf ∷ []) → ⊥ }
     ensures marked { IsRtcp (0x80 ∷ 0xe0 ∷ []) → ⊥ }
     ensures one_byte { IsRtcp (0xc8 ∷ []) → ⊥ }
+{}
+
+/// The first packet of a compound, and what is behind it (RFC 3550, 6.1): a receiver report before a
+/// PLI, and a PLI alone; none where one is cut in the middle, of version 1, or of three bytes.
+pub fn packets_of_a_compound()
+    ensures before { first_rtcp (0x80 ∷ 0xc9 ∷ 0x00 ∷ 0x01 ∷ 0x00 ∷ 0x00 ∷ 0x00 ∷ 0x01 ∷ 0x81 ∷ 0xce
+        ∷ 0x00 ∷ 0x02 ∷ 0x00 ∷ 0x00 ∷ 0x00 ∷ 0x01 ∷ 0x00 ∷ 0x00 ∷ 0x00 ∷ 0x02 ∷ [])
+        ≡ Some (
+          0x80 ∷ 0xc9 ∷ 0x00 ∷ 0x01 ∷ 0x00 ∷ 0x00 ∷ 0x00 ∷ 0x01 ∷ [],
+          0x81 ∷ 0xce ∷ 0x00 ∷ 0x02 ∷ 0x00 ∷ 0x00 ∷ 0x00 ∷ 0x01 ∷ 0x00 ∷ 0x00 ∷ 0x00 ∷ 0x02 ∷ [],
+        ) }
+    ensures alone { first_rtcp (0x81 ∷ 0xce ∷ 0x00 ∷ 0x02 ∷ 0x00 ∷ 0x00 ∷ 0x00 ∷ 0x01 ∷ 0x00 ∷ 0x00
+        ∷ 0x00 ∷ 0x02 ∷ [])
+        ≡ Some (
+          0x81 ∷ 0xce ∷ 0x00 ∷ 0x02 ∷ 0x00 ∷ 0x00 ∷ 0x00 ∷ 0x01 ∷ 0x00 ∷ 0x00 ∷ 0x00 ∷ 0x02 ∷ [],
+          [],
+        ) }
+    ensures cut { first_rtcp (0x81 ∷ 0xce ∷ 0x00 ∷ 0x02 ∷ 0x00 ∷ 0x00 ∷ 0x00 ∷ 0x01 ∷ 0x00 ∷ 0x00
+        ∷ 0x00 ∷ []) ≡ None }
+    ensures other_version { first_rtcp (0x41 ∷ 0xce ∷ 0x00 ∷ 0x02 ∷ 0x00 ∷ 0x00 ∷ 0x00 ∷ 0x01 ∷ 0x00
+        ∷ 0x00 ∷ 0x00 ∷ 0x02 ∷ []) ≡ None }
+    ensures three_bytes { first_rtcp (0x81 ∷ 0xce ∷ 0x00 ∷ []) ≡ None }
 {}
 
 /// A retransmission payload, and the packet: all but payload type, number and SSRC as of the original.
@@ -300,5 +323,73 @@ pub fn feedback()
         last_sender_report = 0xffff_ffff;
         delay = 0xffff_ffff;
       };
+    }) }
+{}
+
+/// Pairs by the bits of RFC 4585, 6.2.1: numbers up to sixteen behind, too far, round 65535, back and
+/// twice; pairs that have no room; the numbers that a pair asks for, and these in memory.
+pub fn nack_pairs_of_numbers()
+    ensures near { nack_pairs 9 (5 ∷ 6 ∷ 21 ∷ []) ≡ record { first = 5; following = 0x8001 } ∷ [] }
+    ensures far { nack_pairs 9 (5 ∷ 22 ∷ [])
+        ≡ record { first = 5; following = 0 } ∷ record { first = 22; following = 0 } ∷ [] }
+    ensures round { nack_pairs 9 (65535 ∷ 0 ∷ []) ≡ record { first = 65535; following = 1 } ∷ [] }
+    ensures back { nack_pairs 9 (5 ∷ 8 ∷ 6 ∷ [])
+        ≡ record { first = 5; following = 4 } ∷ record { first = 6; following = 0 } ∷ [] }
+    ensures twice { nack_pairs 9 (5 ∷ 5 ∷ [])
+        ≡ record { first = 5; following = 0 } ∷ record { first = 5; following = 0 } ∷ [] }
+    ensures one { nack_pairs 1 (5 ∷ 6 ∷ 23 ∷ []) ≡ record { first = 5; following = 1 } ∷ [] }
+    ensures none { nack_pairs 9 [] ≡ [] }
+    ensures all { nack_count 9 (5 ∷ 6 ∷ 23 ∷ []) ≡ 3 }
+    ensures first { nack_count 1 (5 ∷ 6 ∷ 23 ∷ []) ≡ 2 }
+    ensures asked { pair_numbers (record { first = 5; following = 0x8001 }) ≡ 5 ∷ 6 ∷ 21 ∷ [] }
+    ensures asked_round { pair_numbers (record { first = 65535; following = 3 })
+        ≡ 65535 ∷ 0 ∷ 1 ∷ [] }
+    ensures alone { pair_numbers (record { first = 7; following = 0 }) ≡ 7 ∷ [] }
+    ensures no_room { pairs_room 15 ≡ 0 }
+    ensures room { pairs_room 16 ≡ 1 }
+    ensures cut { pairs_room 23 ≡ 2 }
+    ensures most { pairs_room 0x10_0000 ≡ 65533 }
+    ensures copied { filled_from 0 (5 ∷ 6 ∷ []) (1 ∷ 2 ∷ 3 ∷ []) ≡ 5 ∷ 6 ∷ 3 ∷ [] }
+    ensures copied_first { filled_from 0 (5 ∷ 6 ∷ []) (1 ∷ []) ≡ 5 ∷ [] }
+    ensures copied_behind { filled_from 1 (5 ∷ 6 ∷ []) (1 ∷ 2 ∷ []) ≡ 1 ∷ 5 ∷ [] }
+{}
+
+/// A generic NACK as in the figures of RFC 4585, 6.1 and 6.2.1; what is none: another format, packet
+/// type or length, and no pair; what is written, and isn't.
+pub fn generic_nacks()
+    ensures bytes { nack_bytes (record {
+      sender = 0x01020304;
+      media = 0xa1a2a3a4;
+      pairs = record { first = 5; following = 0x8001 }
+          ∷ record { first = 0x1234; following = 0 } ∷ [];
+    }) ≡ 0x81 ∷ 0xcd ∷ 0x00 ∷ 0x04 ∷ 0x01 ∷ 0x02 ∷ 0x03 ∷ 0x04 ∷ 0xa1 ∷ 0xa2 ∷ 0xa3 ∷ 0xa4
+        ∷ 0x00 ∷ 0x05 ∷ 0x80 ∷ 0x01 ∷ 0x12 ∷ 0x34 ∷ 0x00 ∷ 0x00 ∷ [] }
+    ensures read { nack_of (0x81 ∷ 0xcd ∷ 0x00 ∷ 0x04 ∷ 0x01 ∷ 0x02 ∷ 0x03 ∷ 0x04 ∷ 0xa1 ∷ 0xa2
+        ∷ 0xa3 ∷ 0xa4 ∷ 0x00 ∷ 0x05 ∷ 0x80 ∷ 0x01 ∷ 0x12 ∷ 0x34 ∷ 0x00 ∷ 0x00 ∷ [])
+        ≡ Some (record {
+          sender = 0x01020304;
+          media = 0xa1a2a3a4;
+          pairs = record { first = 5; following = 0x8001 }
+              ∷ record { first = 0x1234; following = 0 } ∷ [];
+        }) }
+    ensures other_format { nack_of (0x8f ∷ 0xcd ∷ 0x00 ∷ 0x03 ∷ 0x00 ∷ 0x00 ∷ 0x00 ∷ 0x01 ∷ 0x00
+        ∷ 0x00 ∷ 0x00 ∷ 0x02 ∷ 0x00 ∷ 0x05 ∷ 0x00 ∷ 0x00 ∷ []) ≡ None }
+    ensures other_type { nack_of (0x81 ∷ 0xce ∷ 0x00 ∷ 0x03 ∷ 0x00 ∷ 0x00 ∷ 0x00 ∷ 0x01 ∷ 0x00
+        ∷ 0x00 ∷ 0x00 ∷ 0x02 ∷ 0x00 ∷ 0x05 ∷ 0x00 ∷ 0x00 ∷ []) ≡ None }
+    ensures other_length { nack_of (0x81 ∷ 0xcd ∷ 0x00 ∷ 0x04 ∷ 0x00 ∷ 0x00 ∷ 0x00 ∷ 0x01 ∷ 0x00
+        ∷ 0x00 ∷ 0x00 ∷ 0x02 ∷ 0x00 ∷ 0x05 ∷ 0x00 ∷ 0x00 ∷ []) ≡ None }
+    ensures no_pair { nack_of (0x81 ∷ 0xcd ∷ 0x00 ∷ 0x02 ∷ 0x00 ∷ 0x00 ∷ 0x00 ∷ 0x01 ∷ 0x00
+        ∷ 0x00 ∷ 0x00 ∷ 0x02 ∷ []) ≡ None }
+    ensures written { IsNackWritten 1 2 (5 ∷ 22 ∷ []) (9 ∷ 9 ∷ 9 ∷ 9 ∷ 9 ∷ 9 ∷ 9 ∷ 9 ∷ 9 ∷ 9 ∷ 9
+        ∷ 9 ∷ 9 ∷ 9 ∷ 9 ∷ 9 ∷ 9 ∷ []) (0x81 ∷ 0xcd ∷ 0x00 ∷ 0x03 ∷ 0x00 ∷ 0x00 ∷ 0x00 ∷ 0x01
+        ∷ 0x00 ∷ 0x00 ∷ 0x00 ∷ 0x02 ∷ 0x00 ∷ 0x05 ∷ 0x00 ∷ 0x00 ∷ 9 ∷ [])
+        (Ok (record { size = 16; count = 1 })) }
+    ensures unwritten { IsNackWritten 1 2 (5 ∷ []) (9 ∷ []) (9 ∷ [])
+        (Err (RtpWriteError.NoRoom 16)) }
+    ensures nothing { IsNackWritten 1 2 [] (9 ∷ []) (9 ∷ []) (Ok (record { size = 0; count = 0 })) }
+    ensures fits { NackFits (record {
+      sender = 0xffff_ffff;
+      media = 0xffff_ffff;
+      pairs = record { first = 0xffff; following = 0xffff } ∷ [];
     }) }
 {}

@@ -40,7 +40,7 @@ pub struct ReceiverReport {
 }
 
 /// Whether bytes are an RTCP packet of this format or count, packet type and length.
-fn is_rtcp_of(format: u8, packet_type: u8, words: u16, bytes: &[u8]) -> bool
+pub(crate) fn is_rtcp_of(format: u8, packet_type: u8, words: u16, bytes: &[u8]) -> bool
     requires { format < 32 }
     ensures { result ≡ spec.is_rtcp_of format packet_type words bytes.now }
 {

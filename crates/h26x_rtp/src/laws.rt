@@ -1,10 +1,12 @@
 //! Laws of the definitions, each the contract of a function without a result.
 
 ghost use Rattle.std.specs.Prelude.{◌≡◌, ◌+◌, ◌^◌, ◌<◌, ◌≤◌, ℕ, Bool, true, false, List, [], ◌∷◌, ◌++◌, Ok, Err, Some, take, drop, length};
+ghost use Rattle.std.specs.List.{AllByRecursion, flat_map};
 ghost use Rattle.h26x_rtp.specs.Datagram.{HeaderParts, DatagramParts, AreBytes, HeaderFits, IsDatagram, datagram_header};
 ghost use Rattle.h26x_rtp.specs.Reading.{datagram_of};
 ghost use Rattle.h26x_rtp.specs.Elements.{ElementParts, ElementFits, element_bytes, elements_in};
 ghost use Rattle.h26x_rtp.specs.Feedback.{PictureLossFits, picture_loss_bytes, picture_loss_of, IntraRequestFits, intra_request_bytes, intra_request_of, ReceiverReportFits, receiver_report_bytes, receiver_report_of};
+ghost use Rattle.h26x_rtp.specs.Nack.{IsNackWritten, nack_count, nack_of, nack_pairs, nack_within, pair_numbers};
 ghost use Rattle.h26x_rtp.specs.Red.{RedParts, IsRed, red_of};
 ghost use Rattle.h26x_rtp.specs.Rtcp.{IsRtcp};
 ghost use Rattle.h26x_rtp.specs.Rtx.{IsOriginal, retransmission_of};
@@ -14,6 +16,7 @@ ghost use Rattle.h26x_rtp.specs.Writing.{IsDatagramWritten, IsHeaderWritten, tol
 use crate::elements::ElementForm;
 use crate::error::RtpWriteError;
 use crate::feedback::{FullIntraRequest, PictureLoss, ReceiverReport};
+use crate::nack::NackWritten;
 
 /// Bytes are at most one packet, and that is what they are read as; bytes that are none are refused
 /// (RFC 3550, 5.1).
@@ -112,4 +115,22 @@ pub fn written_feedback_is_read()
         intra_request_of (intra_request_bytes it) ≡ Some it }
     ensures receiver_report { (it : ReceiverReport) → ReceiverReportFits it →
         receiver_report_of (receiver_report_bytes it) ≡ Some it }
+{}
+
+/// A generic NACK that is written is read as the same; its pairs ask for exactly the first ones of
+/// the numbers, in their order, for at least one, and for all where their pairs have room (RFC 4585,
+/// 6.2.1).
+pub fn written_nacks_ask_for_their_numbers()
+    ensures read { (sender media : ℕ) (numbers old new : List ℕ) (written : NackWritten) →
+        sender < 2 ^ 32 → media < 2 ^ 32 → AllByRecursion (λ number. number < 2 ^ 16) numbers →
+        0 < length numbers → IsNackWritten sender media numbers old new (Ok written) →
+        nack_of (take written.size new)
+        ≡ Some (nack_within sender media numbers (length old)) }
+    ensures asked { (most : ℕ) (numbers : List ℕ) →
+        flat_map pair_numbers (nack_pairs most numbers) ≡ take (nack_count most numbers) numbers }
+    ensures some { (most : ℕ) (numbers : List ℕ) → 0 < most → 0 < length numbers →
+        0 < nack_count most numbers }
+    ensures all { (most : ℕ) (numbers : List ℕ) →
+        length (nack_pairs (length numbers) numbers) ≤ most →
+        nack_count most numbers ≡ length numbers }
 {}

@@ -1,7 +1,7 @@
 //! What stands round a payload: RTP's header (RFC 3550), the elements of header extensions (RFC 8285), retransmissions
 //! (RTX, RFC 4588) and redundant payloads (RED, RFC 2198); what is counted of a source, and RTCP that reports it (RFC
-//! 3550) or asks for a keyframe (PLI, RFC 4585; FIR, RFC 5104). Nothing takes memory: what is read is borrowed, and what
-//! is written goes to memory of the caller.
+//! 3550) or asks for packets again (NACK, RFC 4585) or for a keyframe (PLI, RFC 4585; FIR, RFC 5104). Nothing takes
+//! memory: what is read is borrowed, and what is written goes to memory of the caller.
 //!
 //! ```
 //! use emupedestal::rtp::{RedPayload, RtpDatagram, RtpHeader, is_rtcp};
@@ -38,7 +38,7 @@
 //! Reporting what came of an SSRC, and asking for a keyframe:
 //!
 //! ```
-//! use emupedestal::rtp::{PictureLoss, ReceiverReport, RtpStatistics};
+//! use emupedestal::rtp::{PictureLoss, ReceiverReport, RtpStatistics, split_rtcp};
 //!
 //! let mut statistics = RtpStatistics::new();
 //! // Arrival and timestamp in ticks of 90 kHz, and how many bytes the payload has.
@@ -50,7 +50,22 @@
 //! let mut rtcp = [0; 64];
 //! let len = ReceiverReport { sender: 2, block }.write(&mut rtcp)?;
 //! let behind = PictureLoss { sender: 2, media: 1 }.write(&mut rtcp[len..])?;
-//! assert_eq!((len, behind), (32, 12));
+//! let (report, rest) = split_rtcp(&rtcp[..len + behind]).ok_or("no RTCP")?;
+//! assert_eq!((report.len(), PictureLoss::read(rest)), (32, Some(PictureLoss { sender: 2, media: 1 })));
+//! # Ok::<(), Box<dyn std::error::Error>>(())
+//! ```
+//!
+//! Asking for packets again, those that `AccessUnitReceiver::nacks` tells, and what a sender reads:
+//!
+//! ```
+//! use emupedestal::rtp::{GenericNack, write_nack};
+//!
+//! let mut rtcp = [0; 64];
+//! let written = write_nack(2, 1, &[65535, 0, 7, 40], &mut rtcp)?;
+//! assert_eq!((written.size, written.count), (20, 4)); // two pairs: 40 is more than 16 behind 65535
+//! let nack = GenericNack::read(&rtcp[..written.size]).ok_or("no NACK")?;
+//! let numbers: Vec<u16> = nack.pairs.flat_map(|pair| pair.numbers()).collect();
+//! assert_eq!((nack.media, numbers), (1, vec![65535, 0, 7, 40]));
 //! # Ok::<(), Box<dyn std::error::Error>>(())
 //! ```
 //!
@@ -58,9 +73,12 @@
 
 pub use crate::proved::h26x_rtp::{ElementForm, RtpElement, RtpElements};
 pub use crate::proved::h26x_rtp::{FullIntraRequest, PictureLoss, ReceiverReport, ReportBlock};
+pub use crate::proved::h26x_rtp::{
+    GenericNack, NackNumbers, NackPair, NackPairs, NackWritten, write_nack,
+};
 pub use crate::proved::h26x_rtp::{RedBlock, RedBlocks, RedError, RedPayload, write_red};
 pub use crate::proved::h26x_rtp::{RtpDatagram, RtpError, RtpExtension, RtpHeader, RtpWriteError};
-pub use crate::proved::h26x_rtp::{RtpStatistics, RtxPayload, is_rtcp};
+pub use crate::proved::h26x_rtp::{RtpStatistics, RtxPayload, is_rtcp, split_rtcp};
 
 impl Default for RtpStatistics {
     /// Nothing was counted.

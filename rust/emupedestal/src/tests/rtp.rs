@@ -1,12 +1,12 @@
 //! RTP's header, elements of extensions, RTX and RED: bytes by the figures of RFC 3550, 5.1, RFC 8285, 4.2 and 4.3,
-//! RFC 4588, 4, and RFC 2198, 3. Statistics by RFC 3550, A.1, A.3 and A.8, and RTCP by the figures of RFC 3550, 6.4.2,
-//! RFC 4585, 6.1, and RFC 5104, 4.3.1.
+//! RFC 4588, 4, and RFC 2198, 3. Statistics by RFC 3550, A.1, A.3 and A.8, and RTCP by the figures of RFC 3550, 6.4.1 and
+//! 6.4.2, RFC 4585, 6.1 and 6.2.1, and RFC 5104, 4.3.1.
 
 use super::bytes;
 use crate::rtp::{
-    FullIntraRequest, PictureLoss, ReceiverReport, RedError, RedPayload, ReportBlock, RtpDatagram,
-    RtpError, RtpExtension, RtpHeader, RtpStatistics, RtpWriteError, RtxPayload, is_rtcp,
-    write_red,
+    FullIntraRequest, GenericNack, NackPair, NackWritten, PictureLoss, ReceiverReport, RedError,
+    RedPayload, ReportBlock, RtpDatagram, RtpError, RtpExtension, RtpHeader, RtpStatistics,
+    RtpWriteError, RtxPayload, is_rtcp, split_rtcp, write_nack, write_red,
 };
 
 /// A packet with a CSRC, an extension of one word and a byte of padding.
@@ -300,5 +300,101 @@ fn feedback() {
             .unwrap();
         let read = ReceiverReport::read(&room[..32]).expect("a report");
         assert_eq!(read.block.lost, written);
+    }
+}
+
+/// The pairs of numbers, as they are written and read.
+fn pairs_of(numbers: &[u16]) -> Vec<(u16, u16)> {
+    let mut room = [0; 64];
+    let written = write_nack(1, 2, numbers, &mut room).expect("room");
+    assert_eq!(written.count, numbers.len());
+    let nack = GenericNack::read(&room[..written.size]).expect("a NACK");
+    assert_eq!((nack.sender, nack.media), (1, 2));
+    let mut copied = [9; 20];
+    assert_eq!(nack.pairs.copy_numbers(&mut copied), numbers.len());
+    assert_eq!(copied[..numbers.len()], *numbers);
+    assert!(copied[numbers.len()..].iter().all(|it| *it == 9));
+    nack.pairs.map(|it| (it.first, it.following)).collect()
+}
+
+#[test]
+fn nack_pairs() {
+    assert_eq!(pairs_of(&[5, 6, 21]), [(5, 0x8001)]);
+    assert_eq!(pairs_of(&[5, 22]), [(5, 0), (22, 0)]);
+    assert_eq!(pairs_of(&[65535, 0]), [(65535, 1)]);
+    assert_eq!(pairs_of(&[5, 8, 6]), [(5, 4), (6, 0)]);
+    let all: Vec<u16> = (65530..=65535).chain(0..=10).collect();
+    assert_eq!(pairs_of(&all), [(65530, 0xffff)]);
+    let pair = NackPair {
+        first: 65530,
+        following: 0xffff,
+    };
+    assert!(pair.numbers().eq(all));
+}
+
+#[test]
+fn nacks() {
+    let written = |size, count| Ok(NackWritten { size, count });
+    let mut room = [9; 24];
+    let numbers = [5, 6, 0x1234, 7];
+    assert_eq!(
+        write_nack(0x0102_0304, 0xa1a2_a3a4, &numbers, &mut room[..23]),
+        written(20, 3)
+    );
+    let packet = bytes("81cd0004 01020304 a1a2a3a4 00050001 12340000");
+    assert_eq!((&room[..20], &room[20..]), (&packet[..], &[9; 4][..]));
+    assert_eq!(write_nack(1, 2, &numbers[3..], &mut room), written(16, 1));
+    assert_eq!(write_nack(1, 2, &[], &mut room[..0]), written(0, 0));
+    assert_eq!(
+        write_nack(1, 2, &[5], &mut room[..15]),
+        Err(RtpWriteError::NoRoom(16))
+    );
+    // There are more numbers than places for them.
+    let nack = GenericNack::read(&packet).expect("a NACK");
+    let mut copied = [9; 2];
+    assert_eq!((nack.pairs.copy_numbers(&mut copied), copied), (3, [5, 6]));
+    // Another format, packet type and length, padding, and no pair.
+    for other in [
+        "8fcd0003 00000001 00000002 00050000",
+        "81ce0003 00000001 00000002 00050000",
+        "81cd0004 00000001 00000002 00050000",
+        "a1cd0003 00000001 00000002 00000004",
+        "81cd0002 00000001 00000002",
+        "",
+    ] {
+        assert!(GenericNack::read(&bytes(other)).is_none());
+    }
+}
+
+#[test]
+fn compounds() {
+    let report = "81c90007 00000001 00000002 40fffffe 00020003 00000044 a1a2a3a4 00010000";
+    let nack = "81cd0003 00000001 a1a2a3a4 00058001";
+    let pli = "81ce0002 01020304 a1a2a3a4";
+    let all = bytes(&format!("{report}{nack}{pli}"));
+    let (first, rest) = split_rtcp(&all).expect("a report");
+    assert_eq!((first, rest), all.split_at(32));
+    let (second, third) = split_rtcp(rest).expect("a NACK");
+    assert_eq!((second, third), rest.split_at(16));
+    assert!(GenericNack::read(second).is_some());
+    assert_eq!(split_rtcp(third), Some((third, &[][..])));
+    assert!(PictureLoss::read(third).is_some());
+    // Cut anywhere, each is there or none.
+    for len in 0..32 {
+        assert_eq!(split_rtcp(&all[..len]), None);
+    }
+    assert_eq!(split_rtcp(&all[..40]), Some(all[..40].split_at(32)));
+    // Without a word behind its first; another version; longer than the datagram.
+    assert!(split_rtcp(&bytes("80cb0000")).is_some());
+    for other in [
+        "01cb0000",
+        "41cb0000",
+        "c1cb0000",
+        "81cb00",
+        "81cb0001",
+        "81ce0100 01020304",
+        "",
+    ] {
+        assert_eq!(split_rtcp(&bytes(other)), None);
     }
 }

@@ -38,7 +38,7 @@ pub struct ReceiverReport {
 }
 
 /// Whether bytes are an RTCP packet of this format or count, packet type and length.
-fn is_rtcp_of(format: u8, packet_type: u8, words: u16, bytes: &[u8]) -> bool {
+pub(crate) fn is_rtcp_of(format: u8, packet_type: u8, words: u16, bytes: &[u8]) -> bool {
     bytes.len() == 4 * usize::from(words) + 4
         && bytes[0] == 128 + format
         && bytes[1] == packet_type
