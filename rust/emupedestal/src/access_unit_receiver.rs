@@ -83,7 +83,7 @@ pub struct AccessUnitReceiver {
     codec: Codec,
 }
 
-fn check_window(config: &AccessUnitConfig) {
+pub(crate) fn check_window(config: &AccessUnitConfig) {
     assert!(
         (1..=1 << 14).contains(&config.window),
         "a window has 1 to 16384 packets"

@@ -137,6 +137,7 @@ mod profile;
 #[allow(clippy::ptr_arg, clippy::question_mark, clippy::too_many_arguments)]
 mod proved;
 pub mod rtp;
+pub mod rtp_receiver;
 #[cfg(feature = "sdp")]
 pub mod sdp;
 mod sequenced;

@@ -20,6 +20,7 @@ pub mod h26x_profile;
 pub mod h26x_receiver;
 pub mod h26x_reorder;
 pub mod h26x_rtp;
+pub mod h26x_rtp_receiver;
 #[cfg(feature = "sdp")]
 pub mod h26x_sdp;
 #[cfg(feature = "sdp")]

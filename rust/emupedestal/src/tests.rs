@@ -23,6 +23,7 @@ mod proved;
 mod quiet;
 mod refusals;
 mod rtp;
+mod rtp_receiver;
 #[cfg(feature = "sdp")]
 mod sdp;
 #[cfg(feature = "sdp")]

@@ -1,0 +1,3 @@
+pub mod OriginalLemmas
+pub mod CallLemmas
+pub mod CaseLemmas

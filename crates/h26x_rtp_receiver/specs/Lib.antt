@@ -1,0 +1,6 @@
+pub mod Original
+pub mod Sources
+pub mod Keyframes
+pub mod RtpReception
+pub mod RtpCalls
+pub mod Cases

@@ -1,0 +1,18 @@
+//! From datagrams to access units: the packets of one stream read of RTP, RTX (RFC 4588) and RED (RFC
+//! 2198), put in order, and what is asked of the sender.
+#![tactic(auto)]
+
+mod cases;
+mod keyframes;
+pub mod laws;
+mod original;
+mod payload_types;
+mod pushed;
+mod receiver;
+mod sources;
+
+pub use original::{NoMedia, RtpOriginal};
+pub use payload_types::RtpPayloadTypes;
+pub use pushed::{RtpPushError, RtpPushed, RtpTaken};
+pub use receiver::{ReceivesRtp, RtpReceiver};
+pub use sources::RtpSources;

@@ -1,0 +1,138 @@
+//! What an RTP packet brings of its stream.
+
+ghost use Rattle.std.specs.Prelude.{◌≡◌};
+ghost use Rattle.h26x_rtp.specs.Datagram.{HeaderParts};
+ghost use Rattle.h26x_rtp.specs.Views.{header_view, datagram_view};
+ghost use Rattle.h26x_rtp_receiver.specs.Original as spec;
+
+use crate::payload_types::RtpPayloadTypes;
+use h26x_reorder::RtpPacket;
+use h26x_rtp::{RedError, RedPayload, RtpDatagram, RtpHeader, RtxPayload};
+
+/// Why a packet bears nothing of the codec.
+#[derive(Debug, Clone, Copy, PartialEq, Eq)]
+pub enum NoMedia {
+    /// It has no payload: it is padding alone (RFC 3550, 5.1).
+    Padding,
+    /// It bears FEC (RFC 5109).
+    Fec,
+    /// It, or its primary block, has this payload type.
+    OtherPayloadType(u8),
+}
+
+/// What an RTP packet brings of its stream: itself, the packet that it sends again (RFC 4588), or its
+/// primary block (RFC 2198).
+#[derive(Debug, Drop)]
+pub struct RtpOriginal<'a> {
+    /// The packet by its number in the stream. Where it bears nothing of the codec it has no payload,
+    /// no marker and timestamp 0: its number is one of the stream's all the same.
+    pub packet: RtpPacket<'a>,
+    /// Why it bears nothing of the codec, where it doesn't.
+    pub no_media: Option<NoMedia>,
+    /// Whether it came as a retransmission.
+    pub is_recovered: bool,
+}
+
+/// The number of a packet of a stream, and whether it came as a retransmission.
+#[derive(Debug, Clone, Copy)]
+struct Place {
+    sequence: u16,
+    is_recovered: bool,
+}
+
+/// A packet that bears nothing of the codec.
+fn bearing_none<'a>(place: Place, why: NoMedia) -> RtpOriginal<'a>
+    ensures { result ≡ spec.bearing_none place.is_recovered place.sequence why }
+{
+    RtpOriginal {
+        packet: RtpPacket {
+            sequence: place.sequence,
+            timestamp: 0,
+            marker: false,
+            payload: &[],
+        },
+        no_media: Some(why),
+        is_recovered: place.is_recovered,
+    }
+}
+
+/// A payload of this payload type.
+fn with_type<'a>(
+    types: RtpPayloadTypes,
+    place: Place,
+    header: RtpHeader<'_>,
+    payload_type: u8,
+    payload: &'a [u8],
+) -> RtpOriginal<'a>
+    ensures { result ≡ spec.with_type types place.is_recovered place.sequence
+        (header_view header.entry) payload_type payload.now }
+{
+    if payload.is_empty() {
+        return bearing_none(place, NoMedia::Padding);
+    }
+    if payload_type == types.media {
+        return RtpOriginal {
+            packet: RtpPacket {
+                sequence: place.sequence,
+                timestamp: header.timestamp,
+                marker: header.marker,
+                payload,
+            },
+            no_media: None,
+            is_recovered: place.is_recovered,
+        };
+    }
+    if types.is_fec(payload_type) {
+        return bearing_none(place, NoMedia::Fec);
+    }
+    bearing_none(place, NoMedia::OtherPayloadType(payload_type))
+}
+
+/// A payload of this payload type, which may be RED.
+fn with_payload<'a>(
+    types: RtpPayloadTypes,
+    place: Place,
+    header: RtpHeader<'_>,
+    payload_type: u8,
+    payload: &'a [u8],
+) -> Result<RtpOriginal<'a>, RedError>
+    ensures { result ≡ spec.with_payload types place.is_recovered place.sequence
+        (header_view header.entry) payload_type payload.now }
+{
+    if payload.is_empty() || !types.is_red(payload_type) {
+        return Ok(with_type(types, place, header, payload_type, payload));
+    }
+    let red = RedPayload::read(payload)?;
+    Ok(with_type(types, place, header, red.payload_type, red.primary))
+}
+
+impl<'a> RtpOriginal<'a> {
+    /// What a packet brings of its stream, by the session's payload types: by RTX the packet that it
+    /// sends again, without its padding, and none where the payload has fewer than two bytes, as of a
+    /// probe; by RED the primary block. Or why its redundant payload is none.
+    pub fn read(
+        types: RtpPayloadTypes,
+        packet: RtpDatagram<'a>,
+    ) -> Result<Option<RtpOriginal<'a>>, RedError>
+        ensures { result ≡ spec.original_of types (datagram_view packet.entry) }
+    {
+        let header = packet.header;
+        let Some(payload_type) = types.resent_type(header.payload_type) else {
+            let place = Place {
+                sequence: header.sequence,
+                is_recovered: false,
+            };
+            let payload = packet.payload;
+            return Ok(Some(with_payload(types, place, header, header.payload_type, payload)?));
+        };
+        let Some(original) = RtxPayload::read(packet.payload) else {
+            return Ok(None);
+        };
+        let place = Place {
+            sequence: original.sequence,
+            is_recovered: true,
+        };
+        let payload = original.payload;
+        Ok(Some(with_payload(types, place, header, payload_type, payload)?))
+    }
+}
