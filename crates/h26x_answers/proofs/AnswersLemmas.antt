@@ -1,13 +1,16 @@
 -- Answers of formats, over any rules.
-use Rattle.std.proofs.Common.{◌≡◌, ℕ, zero, suc, ◌<◌, Bool, true, false, cond, List, [], ◌∷◌, length, get_or, Option, Some, None, ◌⊎◌, inl, inr, refl, sym, ap, subst, ◌∙◌, arith}
-use Rattle.std.specs.Prelude.{is_some}
+use Rattle.std.proofs.Common.{◌≡◌, ℕ, zero, suc, ◌<◌, Bool, true, false, not, ◌&&◌, cond, List, [], ◌∷◌, length, get_or, Option, Some, None, ◌⊎◌, inl, inr, refl, sym, ap, subst, ◌∙◌, arith}
+use Rattle.std.specs.Prelude.{◌||◌, is_some}
 use Rattle.std.specs.List.{Contains, AllByRecursion}
 use Rattle.std.specs.Option.{option_map, option_or}
 use Rattle.h26x_answers.specs.declared.answer.Role.{Role}
+use Rattle.std.proofs.lemmas.Bool.{and_parts, and_from}
+use Rattle.h26x_answers.specs.declared.answer.AnswerConfig.{AnswerConfig}
 use Rattle.h26x_answers.specs.declared.fault.FormatFault.{FormatFault}
+use Rattle.h26x_answers.specs.declared.fault.FormatFault.TheVariants.{OutOfOrder}
 use Rattle.h26x_answers.specs.declared.answer.Role.TheVariants as role
 use Rattle.h26x_fmtp.specs.Reading.{FormatParameters, value_at}
-use Rattle.h26x_answers.specs.Answers.{MediaFormat, Terms, Rules, answered_value, answered_values, answered, common_terms, answer_by, unless_broken, allowed_answer, answer_of, format_answer, offer_answer}
+use Rattle.h26x_answers.specs.Answers.{MediaFormat, Terms, Rules, answered_value, answered_values, answered, common_terms, answer_by, unless_broken, takes_order, own_fault, allowed_answer, answer_of, format_answer, offer_answer}
 use Rattle.h26x_fmtp.specs.Parameters.{AreParameters}
 use Rattle.h26x_answers.specs.AnswerLaws.{ComesFrom, IsCommonAnswered, IsAnswerCommon}
 
@@ -40,12 +43,12 @@ pub contains_first : {A : Type 0} (x : A) (xs : List A) → Contains (x ∷ xs) 
 contains_first x xs = (0, omega arith, refl)
 
 -- an answer by ours is by one of ours
-pub answer_from : (rules : Rules) (offered : FormatParameters) (ours : List FormatParameters) (answer : FormatParameters) → answer_of rules offered ours ≡ Some answer
-    → (own : FormatParameters) × (Contains ours own) × (allowed_answer rules offered own ≡ Some answer)
-answer_from rules offered [] answer h = cc h
-answer_from rules offered (own ∷ ours) answer h = elim (either (allowed_answer rules offered own) (answer_of rules offered ours) answer h) [
+pub answer_from : (rules : Rules) (config : AnswerConfig) (offered : FormatParameters) (ours : List FormatParameters) (answer : FormatParameters) → answer_of rules config offered ours ≡ Some answer
+    → (own : FormatParameters) × (Contains ours own) × (allowed_answer rules config offered own ≡ Some answer)
+answer_from rules config offered [] answer h = cc h
+answer_from rules config offered (own ∷ ours) answer h = elim (either (allowed_answer rules config offered own) (answer_of rules config offered ours) answer h) [
   | inl here ↦ (own, contains_first own ours, here)
-  | inr behind ↦ let (it, within, is) = answer_from rules offered ours answer behind in (it, contains_more own ours it within, is)
+  | inr behind ↦ let (it, within, is) = answer_from rules config offered ours answer behind in (it, contains_more own ours it within, is)
 ]
 
 -- what a payload type's answer is
@@ -54,8 +57,8 @@ format_parts : (format : MediaFormat) (found : Option FormatParameters) (answer 
 format_parts format None answer h = cc h
 format_parts format (Some it) answer h = (it, refl, cc h)
 
-have_more : (rules : Rules) (Is : FormatParameters → FormatParameters → Type 0) (first : MediaFormat) (offer : List MediaFormat) (ours : List FormatParameters) (answer : MediaFormat) → ComesFrom rules Is offer ours answer → ComesFrom rules Is (first ∷ offer) ours answer
-have_more rules Is first offer ours answer from = record {
+have_more : (rules : Rules) (config : AnswerConfig) (Is : FormatParameters → FormatParameters → Type 0) (first : MediaFormat) (offer : List MediaFormat) (ours : List FormatParameters) (answer : MediaFormat) → ComesFrom rules config Is offer ours answer → ComesFrom rules config Is (first ∷ offer) ours answer
+have_more rules config Is first offer ours answer from = record {
   format = from.format;
   own = from.own;
   have = record {
@@ -63,6 +66,8 @@ have_more rules Is first offer ours answer from = record {
     taken = from.have.taken;
     known = from.have.known;
     unbroken = from.have.unbroken;
+    their_order = from.have.their_order;
+    our_order = from.have.our_order;
     common = from.have.common;
   };
   keeps = from.keeps;
@@ -88,38 +93,69 @@ unbroken_parts : (fault : Option FormatFault) (answer : Option FormatParameters)
 unbroken_parts None answer it h = (refl, h)
 unbroken_parts (Some fault) answer it h = cc h
 
+-- nor does one whose units are sent in an order that is taken
+fault_parts : (fault : Option FormatFault) (taken : Bool) → option_or fault (cond taken None (Some OutOfOrder)) ≡ None → (fault ≡ None) × (taken ≡ true)
+fault_parts None true h = (refl, refl)
+fault_parts None false h = cc h
+fault_parts (Some fault) taken h = cc h
+
+fault_from : (fault : Option FormatFault) (taken : Bool) → fault ≡ None → taken ≡ true → option_or fault (cond taken None (Some OutOfOrder)) ≡ None
+fault_from fault taken none is = ap (λ f. option_or f (cond taken None (Some OutOfOrder))) none ∙ ap (λ t. cond t None (Some OutOfOrder)) is
+
+order_parts : (any reorders : Bool) → (any || not reorders) ≡ true → (any ≡ true) ⊎ (reorders ≡ false)
+order_parts true reorders h = inl refl
+order_parts false true h = cc h
+order_parts false false h = inr refl
+
+order_from : (any reorders : Bool) → (any ≡ true) ⊎ (reorders ≡ false) → (any || not reorders) ≡ true
+order_from true reorders h = refl
+order_from false true (inl h) = cc h
+order_from false true (inr h) = cc h
+order_from false false h = refl
+
 let_in : (test : Bool) (some : Option FormatParameters) (it : FormatParameters) → cond test some None ≡ Some it → (test ≡ true) × (some ≡ Some it)
 let_in true some it h = (refl, h)
 let_in false some it h = cc h
 
-have_first : (rules : Rules) (Is : FormatParameters → FormatParameters → Type 0) → AreCommon rules Is → (format : MediaFormat) (offer : List MediaFormat) (ours : List FormatParameters) → AreParameters rules.rows format.parameters → AllByRecursion (AreParameters rules.rows) ours
-    → (answer : MediaFormat) → format_answer rules format ours ≡ Some answer → ComesFrom rules Is (format ∷ offer) ours answer
-have_first rules Is are format offer ours of_format of_ours answer h =
-    let (it, by, is) = format_parts format (answer_of rules format.parameters ours) answer h in
-    let (own, within, allowed) = answer_from rules format.parameters ours it by in
-    let (known, rest) = let_in (rules.known format.parameters) (unless_broken (rules.fault own) (answer_by rules format.parameters own)) it allowed in
-    let (unbroken, one) = unbroken_parts (rules.fault own) (answer_by rules format.parameters own) it rest in
+have_first : (rules : Rules) (config : AnswerConfig) (Is : FormatParameters → FormatParameters → Type 0) → AreCommon rules Is → (format : MediaFormat) (offer : List MediaFormat) (ours : List FormatParameters) → AreParameters rules.rows format.parameters → AllByRecursion (AreParameters rules.rows) ours
+    → (answer : MediaFormat) → format_answer rules config format ours ≡ Some answer → ComesFrom rules config Is (format ∷ offer) ours answer
+have_first rules config Is are format offer ours of_format of_ours answer h =
+    let (it, by, is) = format_parts format (answer_of rules config format.parameters ours) answer h in
+    let (own, within, allowed) = answer_from rules config format.parameters ours it by in
+    let order = takes_order rules config format.parameters in
+    let (let_through, rest) = let_in (rules.known format.parameters && order) (unless_broken (own_fault rules config own) (answer_by rules format.parameters own)) it allowed in
+    let (known, theirs) = and_parts (rules.known format.parameters) order let_through in
+    let (no_fault, one) = unbroken_parts (own_fault rules config own) (answer_by rules format.parameters own) it rest in
+    let (unbroken, ours_taken) = fault_parts (rules.fault own) (takes_order rules config own) no_fault in
     let (terms, common, made) = answer_parts rules format.parameters own it (common_terms rules format.parameters own) one in
     let of_own = each_of (AreParameters rules.rows) ours own of_ours within in
     record {
       format = format;
       own = own;
-      have = record { offered = contains_first format offer; taken = within; known = known; unbroken = unbroken; common = are format.parameters own of_format of_own terms common };
+      have = record {
+        offered = contains_first format offer;
+        taken = within;
+        known = known;
+        unbroken = unbroken;
+        their_order = order_parts config.any_order (rules.reorders format.parameters) theirs;
+        our_order = order_parts config.any_order (rules.reorders own) ours_taken;
+        common = are format.parameters own of_format of_own terms common;
+      };
       keeps = ap (λ (m : MediaFormat). m.payload_type) is;
       is = one ∙ ap (λ (m : MediaFormat). Some m.parameters) (sym is);
     }
 
 -- an answer comes from a format and one of ours that have a configuration in common
-comes_from_all : (rules : Rules) (Is : FormatParameters → FormatParameters → Type 0) → AreCommon rules Is → (offer : List MediaFormat) (ours : List FormatParameters) → AllByRecursion (λ it. AreParameters rules.rows it.parameters) offer → AllByRecursion (AreParameters rules.rows) ours
-    → (answer : MediaFormat) → offer_answer rules offer ours ≡ Some answer → ComesFrom rules Is offer ours answer
-comes_from_all rules Is are [] ours of_offer of_ours answer h = cc h
-comes_from_all rules Is are (format ∷ offer) ours of_offer of_ours answer h = elim (either (format_answer rules format ours) (offer_answer rules offer ours) answer h) [
-  | inl here ↦ have_first rules Is are format offer ours of_offer.0 of_ours answer here
-  | inr behind ↦ have_more rules Is format offer ours answer (comes_from_all rules Is are offer ours of_offer.1 of_ours answer behind)
+comes_from_all : (rules : Rules) (config : AnswerConfig) (Is : FormatParameters → FormatParameters → Type 0) → AreCommon rules Is → (offer : List MediaFormat) (ours : List FormatParameters) → AllByRecursion (λ it. AreParameters rules.rows it.parameters) offer → AllByRecursion (AreParameters rules.rows) ours
+    → (answer : MediaFormat) → offer_answer rules config offer ours ≡ Some answer → ComesFrom rules config Is offer ours answer
+comes_from_all rules config Is are [] ours of_offer of_ours answer h = cc h
+comes_from_all rules config Is are (format ∷ offer) ours of_offer of_ours answer h = elim (either (format_answer rules config format ours) (offer_answer rules config offer ours) answer h) [
+  | inl here ↦ have_first rules config Is are format offer ours of_offer.0 of_ours answer here
+  | inr behind ↦ have_more rules config Is format offer ours answer (comes_from_all rules config Is are offer ours of_offer.1 of_ours answer behind)
 ]
 
 pub comes_from : (rules : Rules) (Is : FormatParameters → FormatParameters → Type 0) → AreCommon rules Is → IsAnswerCommon rules Is
-comes_from rules Is are offer ours formats answer h = comes_from_all rules Is are offer ours formats.theirs formats.own answer h
+comes_from rules Is are config offer ours formats answer h = comes_from_all rules config Is are offer ours formats.theirs formats.own answer h
 
 -- the first of two or the second is there, if one of them is
 first_there : {A : Type 0} (a b : Option A) → is_some a ≡ true → is_some (option_or a b) ≡ true
@@ -135,33 +171,35 @@ map_there f (Some x) h = refl
 map_there f None h = cc h
 
 -- one of ours that gives an answer is enough
-answer_there : (rules : Rules) (offered own : FormatParameters) (ours : List FormatParameters) (k : ℕ) → k < length ours → get_or ours k own ≡ own → is_some (allowed_answer rules offered own) ≡ true
-    → is_some (answer_of rules offered ours) ≡ true
-answer_there rules offered own [] k within is there = absurd (omega arith)
-answer_there rules offered own (u ∷ ours) zero within is there =
-    first_there (allowed_answer rules offered u) (answer_of rules offered ours) (ap (λ it. is_some (allowed_answer rules offered it)) is ∙ there)
-answer_there rules offered own (u ∷ ours) (suc k) within is there =
-    second_there (allowed_answer rules offered u) (answer_of rules offered ours) (answer_there rules offered own ours k (omega arith) is there)
+answer_there : (rules : Rules) (config : AnswerConfig) (offered own : FormatParameters) (ours : List FormatParameters) (k : ℕ) → k < length ours → get_or ours k own ≡ own → is_some (allowed_answer rules config offered own) ≡ true
+    → is_some (answer_of rules config offered ours) ≡ true
+answer_there rules config offered own [] k within is there = absurd (omega arith)
+answer_there rules config offered own (u ∷ ours) zero within is there =
+    first_there (allowed_answer rules config offered u) (answer_of rules config offered ours) (ap (λ it. is_some (allowed_answer rules config offered it)) is ∙ there)
+answer_there rules config offered own (u ∷ ours) (suc k) within is there =
+    second_there (allowed_answer rules config offered u) (answer_of rules config offered ours) (answer_there rules config offered own ours k (omega arith) is there)
 
-offer_there : (rules : Rules) (format : MediaFormat) (offer : List MediaFormat) (ours : List FormatParameters) (k : ℕ) → k < length offer → get_or offer k format ≡ format → is_some (format_answer rules format ours) ≡ true
-    → is_some (offer_answer rules offer ours) ≡ true
-offer_there rules format [] ours k within is there = absurd (omega arith)
-offer_there rules format (f ∷ offer) ours zero within is there =
-    first_there (format_answer rules f ours) (offer_answer rules offer ours) (ap (λ it. is_some (format_answer rules it ours)) is ∙ there)
-offer_there rules format (f ∷ offer) ours (suc k) within is there =
-    second_there (format_answer rules f ours) (offer_answer rules offer ours) (offer_there rules format offer ours k (omega arith) is there)
+offer_there : (rules : Rules) (config : AnswerConfig) (format : MediaFormat) (offer : List MediaFormat) (ours : List FormatParameters) (k : ℕ) → k < length offer → get_or offer k format ≡ format → is_some (format_answer rules config format ours) ≡ true
+    → is_some (offer_answer rules config offer ours) ≡ true
+offer_there rules config format [] ours k within is there = absurd (omega arith)
+offer_there rules config format (f ∷ offer) ours zero within is there =
+    first_there (format_answer rules config f ours) (offer_answer rules config offer ours) (ap (λ it. is_some (format_answer rules config it ours)) is ∙ there)
+offer_there rules config format (f ∷ offer) ours (suc k) within is there =
+    second_there (format_answer rules config f ours) (offer_answer rules config offer ours) (offer_there rules config format offer ours k (omega arith) is there)
 
 -- of two ends with a configuration in common there is an answer
 pub found : (rules : Rules) (Is : FormatParameters → FormatParameters → Type 0) → HaveTerms rules Is → IsCommonAnswered rules Is
-found rules Is have_terms offer ours formats format own have =
+found rules Is have_terms config offer ours formats format own have =
     let of_format = each_of (λ (it : MediaFormat). AreParameters rules.rows it.parameters) offer format formats.theirs have.offered in
     let of_own = each_of (AreParameters rules.rows) ours own formats.own have.taken in
     let (terms, common) = have_terms format.parameters own of_format of_own have.common in
     let by : is_some (answer_by rules format.parameters own) ≡ true =
     map_there (answered rules format.parameters own) (common_terms rules format.parameters own) (ap (λ (o : Option Terms). is_some o) common) in
-    let let_through : is_some (allowed_answer rules format.parameters own) ≡ true =
-    ap (λ t. is_some (cond t (unless_broken (rules.fault own) (answer_by rules format.parameters own)) None)) have.known
-    ∙ ap (λ f. is_some (unless_broken f (answer_by rules format.parameters own))) have.unbroken ∙ by in
-    let one = answer_there rules format.parameters own ours have.taken.0 have.taken.1 have.taken.2 let_through in
-    offer_there rules format offer ours have.offered.0 have.offered.1 have.offered.2
-    (map_there (λ (it : FormatParameters). record format { parameters = it }) (answer_of rules format.parameters ours) one)
+    let let_through : is_some (allowed_answer rules config format.parameters own) ≡ true =
+    ap (λ t. is_some (cond t (unless_broken (own_fault rules config own) (answer_by rules format.parameters own)) None))
+    (and_from (rules.known format.parameters) (takes_order rules config format.parameters) have.known (order_from config.any_order (rules.reorders format.parameters) have.their_order))
+    ∙ ap (λ f. is_some (unless_broken f (answer_by rules format.parameters own)))
+    (fault_from (rules.fault own) (takes_order rules config own) have.unbroken (order_from config.any_order (rules.reorders own) have.our_order)) ∙ by in
+    let one = answer_there rules config format.parameters own ours have.taken.0 have.taken.1 have.taken.2 let_through in
+    offer_there rules config format offer ours have.offered.0 have.offered.1 have.offered.2
+    (map_there (λ (it : FormatParameters). record format { parameters = it }) (answer_of rules config format.parameters ours) one)

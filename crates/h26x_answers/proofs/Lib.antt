@@ -11,3 +11,4 @@ pub mod SymmetricLemmas
 pub mod ConfigurationsH264Lemmas
 pub mod LevelsSaidLemmas
 pub mod ConfigurationsTieredLemmas
+pub mod OrderLemmas

@@ -1,11 +1,13 @@
 -- Answers to offers of formats (RFC 3264, section 6; RFC 6184, section 8.2.2; RFC 7798, section 7.2.2;
 -- RFC 9328, section 7.3.2).
-use Rattle.std.specs.Prelude.{ℕ, ◌==◌, nat_le, Bool, true, false, ◌&&◌, if◌then◌else◌, List, [], ◌∷◌, Option, Some, None}
+use Rattle.std.specs.Prelude.{ℕ, ◌==◌, nat_le, Bool, true, false, not, ◌&&◌, ◌||◌, if◌then◌else◌, List, [], ◌∷◌, Option, Some, None}
 use Rattle.std.specs.Option.{option_map, option_or}
 use Rattle.h26x_fmtp.specs.declared.kind.Kind.{Kind}
 use Rattle.h26x_fmtp.specs.declared.kind.Kind.TheVariants.{Number, HexadecimalNumber, Hexadecimal, TxMode, Units, Text}
 use Rattle.h26x_answers.specs.declared.answer.Role.{Role}
+use Rattle.h26x_answers.specs.declared.answer.AnswerConfig.{AnswerConfig}
 use Rattle.h26x_answers.specs.declared.fault.FormatFault.{FormatFault}
+use Rattle.h26x_answers.specs.declared.fault.FormatFault.TheVariants.{OutOfOrder}
 use Rattle.h26x_answers.specs.declared.answer.Role.TheVariants as role
 use Rattle.std.specs.Cmp.Lexicographic.{pointwise}
 use Rattle.std.specs.Prelude.{nat_eq}
@@ -122,12 +124,20 @@ pub record Rules : Type 0 where
   pub known : FormatParameters → Bool
   -- the first rule of its RFC that a format of one's own breaks
   pub fault : FormatParameters → Option FormatFault
+  -- whether a format's units may be sent in another order than decoded
+  pub reorders : FormatParameters → Bool
 
 abbrev pub rules_of : List ParameterRow → List Role →
     (FormatParameters → FormatParameters → Option Terms) → (FormatParameters → Bool) →
-    (FormatParameters → Option FormatFault) → Rules
-rules_of rows roles terms known fault =
-    record { rows = rows; roles = roles; terms = terms; known = known; fault = fault }
+    (FormatParameters → Option FormatFault) → (FormatParameters → Bool) → Rules
+rules_of rows roles terms known fault reorders = record {
+  rows = rows;
+  roles = roles;
+  terms = terms;
+  known = known;
+  fault = fault;
+  reorders = reorders;
+}
 
 -- the parameters of the answer, on terms: of those that the table doesn't have our own alone
 abbrev pub answered : Rules → FormatParameters → FormatParameters → Terms → FormatParameters
@@ -152,23 +162,37 @@ abbrev pub unless_broken : Option FormatFault → Option FormatParameters → Op
 unless_broken None answer = answer
 unless_broken (Some fault) answer = None
 
-abbrev pub allowed_answer : Rules → FormatParameters → FormatParameters → Option FormatParameters
-allowed_answer rules offered own =
-    if rules.known offered then unless_broken (rules.fault own) (answer_by rules offered own) else None
+-- whether the answerer takes the order in which a format's units may be sent
+abbrev pub takes_order : Rules → AnswerConfig → FormatParameters → Bool
+takes_order rules config it = config.any_order || not (rules.reorders it)
+
+-- the first rule that a format of one's own breaks: of its RFC, or that the answerer takes its order
+abbrev pub own_fault : Rules → AnswerConfig → FormatParameters → Option FormatFault
+own_fault rules config own = option_or (rules.fault own)
+    (if takes_order rules config own then None else Some OutOfOrder)
+
+abbrev pub allowed_answer : Rules → AnswerConfig → FormatParameters → FormatParameters →
+    Option FormatParameters
+allowed_answer rules config offered own =
+    if rules.known offered && takes_order rules config offered then
+    unless_broken (own_fault rules config own) (answer_by rules offered own) else None
 
 -- the answer by the first of ours that gives one
-abbrev pub answer_of : Rules → FormatParameters → List FormatParameters → Option FormatParameters
-answer_of rules offered [] = None
-answer_of rules offered (own ∷ ours) = option_or (allowed_answer rules offered own)
-    (answer_of rules offered ours)
+abbrev pub answer_of : Rules → AnswerConfig → FormatParameters → List FormatParameters →
+    Option FormatParameters
+answer_of rules config offered [] = None
+answer_of rules config offered (own ∷ ours) = option_or (allowed_answer rules config offered own)
+    (answer_of rules config offered ours)
 
 -- the same of a payload type, which it keeps
-abbrev pub format_answer : Rules → MediaFormat → List FormatParameters → Option MediaFormat
-format_answer rules format ours = option_map (λ it. record format { parameters = it })
-    (answer_of rules format.parameters ours)
+abbrev pub format_answer : Rules → AnswerConfig → MediaFormat → List FormatParameters →
+    Option MediaFormat
+format_answer rules config format ours = option_map (λ it. record format { parameters = it })
+    (answer_of rules config format.parameters ours)
 
 -- the answer to the first offered format that has one
-abbrev pub offer_answer : Rules → List MediaFormat → List FormatParameters → Option MediaFormat
-offer_answer rules [] ours = None
-offer_answer rules (format ∷ rest) ours = option_or (format_answer rules format ours)
-    (offer_answer rules rest ours)
+abbrev pub offer_answer : Rules → AnswerConfig → List MediaFormat → List FormatParameters →
+    Option MediaFormat
+offer_answer rules config [] ours = None
+offer_answer rules config (format ∷ rest) ours = option_or (format_answer rules config format ours)
+    (offer_answer rules config rest ours)

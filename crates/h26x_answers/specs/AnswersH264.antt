@@ -316,5 +316,11 @@ abbrev pub fault : FormatParameters → Option FormatFault
 fault it = fault_of_id it (id_of it)
 
 abbrev pub rules : Rules
-rules =
-    record { rows = rows; roles = roles; terms = terms; known = known; fault = fault }
+rules = record {
+  rows = rows;
+  roles = roles;
+  terms = terms;
+  known = known;
+  fault = fault;
+  reorders = is_interleaved;
+}

@@ -1,5 +1,5 @@
 -- Answers to offers of H.265 (RFC 7798, section 7.2.2).
-use Rattle.std.specs.Prelude.{ℕ, ◌+◌, ◌-◌, ◌*◌, ◌^◌, if◌then◌else◌, List, [], ◌∷◌, Option, Some, None, Result, Ok}
+use Rattle.std.specs.Prelude.{ℕ, Bool, ◌+◌, ◌-◌, ◌*◌, ◌^◌, if◌then◌else◌, List, [], ◌∷◌, Option, Some, None, Result, Ok}
 use Rattle.std.specs.Option.{option_map}
 use Rattle.hex.specs.Hex.{decode_sized}
 use Rattle.hex.specs.declared.error.FromHexError.{FromHexError}
@@ -10,7 +10,7 @@ use Rattle.h26x_fmtp.specs.Reading.{FormatParameters, value_at, number_or_defaul
 use Rattle.h26x_sdp.specs.H265Rows.{rows, row_place}
 use Rattle.h26x_answers.specs.OwnH265 as own
 use Rattle.h26x_answers.specs.Answers.{Terms, Rules, same_number}
-use Rattle.h26x_answers.specs.AnswersByLevel.{LevelRows, terms_by_level}
+use Rattle.h26x_answers.specs.AnswersByLevel.{LevelRows, is_positive, terms_by_level}
 
 -- what each parameter is in an offer and its answer (table 1), in the order of the table
 abbrev pub roles : List Role
@@ -65,6 +65,16 @@ terms offered own =
     if same_number (compatible_profiles offered) (compatible_profiles own) then
     terms_by_level rows by offered own else None
 
+-- packets bear decoding order numbers
+abbrev pub reorders : FormatParameters → Bool
+reorders it = is_positive (number_or_default rows it (row_place p.SpropMaxDonDiff))
+
 abbrev pub rules : Rules
-rules =
-    record { rows = rows; roles = roles; terms = terms; known = own.known; fault = own.fault }
+rules = record {
+  rows = rows;
+  roles = roles;
+  terms = terms;
+  known = own.known;
+  fault = own.fault;
+  reorders = reorders;
+}

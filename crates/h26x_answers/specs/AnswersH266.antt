@@ -10,7 +10,7 @@ use Rattle.h26x_fmtp.specs.Reading.{FormatParameters, value_at, number_or_defaul
 use Rattle.h26x_sdp.specs.H266Rows.{rows, row_place}
 use Rattle.h26x_answers.specs.OwnH266 as own
 use Rattle.h26x_answers.specs.Answers.{Terms, Rules, same_number, same_if_given, only_if}
-use Rattle.h26x_answers.specs.AnswersByLevel.{LevelRows, terms_by_level}
+use Rattle.h26x_answers.specs.AnswersByLevel.{LevelRows, is_positive, terms_by_level}
 
 -- what each parameter is in an offer and its answer (figure 11), in the order of the table
 abbrev pub roles : List Role
@@ -65,6 +65,16 @@ abbrev pub terms : FormatParameters → FormatParameters → Option Terms
 terms offered own =
     option_and_then (if_keeps_vps offered own) (terms_by_level rows by offered own)
 
+-- packets bear decoding order numbers
+abbrev pub reorders : FormatParameters → Bool
+reorders it = is_positive (number_or_default rows it (row_place p.SpropMaxDonDiff))
+
 abbrev pub rules : Rules
-rules =
-    record { rows = rows; roles = roles; terms = terms; known = own.known; fault = own.fault }
+rules = record {
+  rows = rows;
+  roles = roles;
+  terms = terms;
+  known = own.known;
+  fault = own.fault;
+  reorders = reorders;
+}

@@ -60,6 +60,10 @@ pub record Receives (it : FormatParameters) (configuration : Configuration) : Ty
   pub level : (level_rank configuration.id ≤ level_rank id)
       ⊎ IsWithinGiven it (level_rank configuration.id)
 
+-- units may be sent in another order than decoded: in interleaved mode (section 6.4)
+abbrev pub Reorders : FormatParameters → Type 0
+Reorders it = number it p.PacketizationMode ≡ Some 2
+
 -- what one end sends in interleaved mode another can put in order (section 8.1): the depth and the
 -- buffer that its stream needs are told, and the other has one as large
 pub record IsPutInOrder (sender receiver : FormatParameters) : Type 0 where

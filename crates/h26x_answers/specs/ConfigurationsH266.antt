@@ -37,10 +37,15 @@ pub record Receives (it : FormatParameters) (configuration : Configuration) : Ty
   pub level : IsReceived rows it (row_place p.LevelId) (row_place p.MaxRecvLevelId)
       configuration.level
 
+-- units may be sent in another order than decoded: packets bear decoding order numbers (section 7.2,
+-- sprop-max-don-diff)
+abbrev pub Reorders : FormatParameters → Type 0
+Reorders it = IsPositive rows it (row_place p.SpropMaxDonDiff)
+
 -- what one end sends another can put in order (section 7.2, sprop-max-don-diff): where its packets bear
 -- decoding order numbers, how many bytes are to be held is told, and the other has the room
 abbrev pub IsPutInOrder : FormatParameters → FormatParameters → Type 0
-IsPutInOrder sender receiver = IsPositive rows sender (row_place p.SpropMaxDonDiff) →
+IsPutInOrder sender receiver = Reorders sender →
     IsPositive rows sender (row_place p.SpropDepackBufBytes)
     × Fits rows sender receiver (row_place p.SpropDepackBufBytes) (row_place p.DepackBufCap)
 

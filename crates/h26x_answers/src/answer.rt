@@ -63,6 +63,8 @@ pub trait CodecRules: CodecParameter {
 
     ghost fault: { reading.FormatParameters → Option FormatFault };
 
+    ghost reorders: { reading.FormatParameters → Bool };
+
     /// What each parameter is, in the order of the table.
     fn roles() -> &'static [Role]
         ensures roles { result.now ≡ roles }
@@ -84,6 +86,20 @@ pub trait CodecRules: CodecParameter {
     /// The first rule of its RFC that a format of one's own breaks, if it breaks one.
     fn fault(own: &CodecParameters<Self>) -> Option<FormatFault>
         ensures { result ≡ fault own.now };
+
+    /// Whether a format's units may be sent in another order than decoded: `packetization-mode` 2 of
+    /// H.264 (RFC 6184, section 6.4), and `sprop-max-don-diff` above 0 of H.265 and H.266 (RFC 7798,
+    /// section 7.1; RFC 9328, section 7.2).
+    fn reorders(it: &CodecParameters<Self>) -> bool
+        ensures { result ≡ reorders it.now };
+}
+
+/// What an answerer can do that no format says, and this payload layer can't.
+#[derive(Debug, Clone, Copy, PartialEq, Eq, Default)]
+pub struct AnswerConfig {
+    /// Whether it takes formats whose units may be sent in another order than decoded: it reads STAP-B,
+    /// MTAP and FU-B of H.264, and puts units in order by their decoding order numbers.
+    pub any_order: bool,
 }
 
 /// What two formats of one configuration agree on.
@@ -321,7 +337,7 @@ fn answered<P: CodecRules>(
     terms: &Terms,
 ) -> Result<CodecParameters<P>, AllocError>
     ensures { IfOk result (λ it. it ≡ spec.answered (spec.rules_of P.rows P.roles P.terms
-        P.known P.fault) offered.now own.now (terms_view terms.now)) }
+        P.known P.fault P.reorders) offered.now own.now (terms_view terms.now)) }
 {
     let (o, u) = (offered.parameters(), own.parameters());
     let parameters = FormatParameters {
@@ -338,7 +354,7 @@ fn common_terms<P: CodecRules>(
     own: &CodecParameters<P>,
 ) -> Result<Option<Terms>, AllocError>
     ensures { IfOk result (λ it. option_map terms_view it ≡ spec.common_terms
-        (spec.rules_of P.rows P.roles P.terms P.known P.fault) offered.now own.now) }
+        (spec.rules_of P.rows P.roles P.terms P.known P.fault P.reorders) offered.now own.now) }
 {
     if !are_symmetric(
         P::roles(),
@@ -358,7 +374,7 @@ fn answer_by<P: CodecRules>(
     own: &CodecParameters<P>,
 ) -> Result<Option<CodecParameters<P>>, AllocError>
     ensures { IfOk result (λ it. it ≡ spec.answer_by (spec.rules_of P.rows P.roles P.terms
-        P.known P.fault) offered.now own.now) }
+        P.known P.fault P.reorders) offered.now own.now) }
 {
     match common_terms(alloc, offered, own)? {
         Some(terms) => Ok(Some(answered(alloc, offered, own, &terms)?)),
@@ -366,36 +382,57 @@ fn answer_by<P: CodecRules>(
     }
 }
 
-/// The answer to an offered format of a profile and a level that a table has, by one of ours that
-/// breaks no rule of its RFC.
+/// The first rule that a format of one's own breaks, if it breaks one: of its RFC, or that its units
+/// are sent in the order in which they're decoded, unless the caller takes any. Such a format gives no
+/// answer.
+pub fn own_fault<P: CodecRules>(
+    config: AnswerConfig,
+    own: &CodecParameters<P>,
+) -> Option<FormatFault>
+    ensures { result ≡ spec.own_fault (spec.rules_of P.rows P.roles P.terms P.known P.fault P.reorders)
+        config own.now }
+{
+    match P::fault(own) {
+        Some(fault) => Some(fault),
+        None if config.any_order || !P::reorders(own) => None,
+        None => Some(FormatFault::OutOfOrder),
+    }
+}
+
+/// The answer to an offered format of a profile and a level that a table has, in an order of units that
+/// the caller takes, by one of ours that breaks no rule.
 fn allowed_answer<P: CodecRules>(
     alloc: Global,
+    config: AnswerConfig,
     offered: &CodecParameters<P>,
     own: &CodecParameters<P>,
 ) -> Result<Option<CodecParameters<P>>, AllocError>
     ensures { IfOk result (λ it. it ≡ spec.allowed_answer (spec.rules_of P.rows P.roles P.terms
-        P.known P.fault) offered.now own.now) }
+        P.known P.fault P.reorders) config offered.now own.now) }
 {
-    if !P::is_known(offered) || P::fault(own).is_some() {
+    let is_ordered = config.any_order || !P::reorders(offered);
+    if !P::is_known(offered) || !is_ordered || own_fault(config, own).is_some() {
         return Ok(None);
     }
     answer_by(alloc, offered, own)
 }
 
-/// The answer to the parameters of an offered format, by the first of ours that gives one; `None` where
-/// none does, and where the standard has no such profile or level. One of ours that breaks a rule of
-/// its RFC gives none (`fault` of [`CodecRules`] tells it). It is for both directions, and for unicast
-/// (RFC 6184, section 8.2.2; RFC 7798, section 7.2.2; RFC 9328, section 7.3.2).
+/// The answer to the parameters of an offered format, by the first of ours that gives one; `None`
+/// where none does, and where the standard has no such profile or level, or units may be sent in
+/// another order than the caller takes. One of ours that breaks a rule gives none ([`own_fault`] tells
+/// it). It is for both directions, and for unicast (RFC 6184, section 8.2.2; RFC 7798, section 7.2.2;
+/// RFC 9328, section 7.3.2).
 pub fn answer_format<P: CodecRules>(
     alloc: Global,
+    config: AnswerConfig,
     offered: &CodecParameters<P>,
     ours: &[CodecParameters<P>],
 ) -> Result<Option<CodecParameters<P>>, AllocError>
     ensures { IfOk result (λ it. it ≡ spec.answer_of (spec.rules_of P.rows P.roles P.terms
-        P.known P.fault) offered.now ours.now) }
+        P.known P.fault P.reorders) config offered.now ours.now) }
 {
     for own in ours {
-        if let Some(answer) = allowed_answer(alloc, offered, own)? {
+        if let Some(answer) = allowed_answer(alloc, config, offered, own)? {
             return Ok(Some(answer));
         }
     }
@@ -410,18 +447,19 @@ pub fn answer_format<P: CodecRules>(
 /// let parameters = H264Parameters::read(alloc, b"profile-level-id=42e01f;packetization-mode=1")?;
 /// let offer = [Format { payload_type: 106, parameters }];
 /// let ours = [H264Parameters::read(alloc, b"profile-level-id=42e00b;packetization-mode=1")?];
-/// let answer = answer_to(alloc, &offer, &ours)?;
+/// let answer = answer_to(alloc, AnswerConfig::default(), &offer, &ours)?;
 /// ```
 pub fn answer_to<P: CodecRules>(
     alloc: Global,
+    config: AnswerConfig,
     offer: &[Format<P>],
     ours: &[CodecParameters<P>],
 ) -> Result<Option<Format<P>>, AllocError>
     ensures { IfOk result (λ it. it ≡ spec.offer_answer (spec.rules_of P.rows P.roles P.terms
-        P.known P.fault) offer.now ours.now) }
+        P.known P.fault P.reorders) config offer.now ours.now) }
 {
     for format in offer {
-        if let Some(parameters) = answer_format(alloc, &format.parameters, ours)? {
+        if let Some(parameters) = answer_format(alloc, config, &format.parameters, ours)? {
             return Ok(Some(Format {
                 payload_type: format.payload_type,
                 parameters,

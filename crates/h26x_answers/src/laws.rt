@@ -3,7 +3,7 @@
 ghost use Rattle.std.specs.Prelude.{◌≡◌, true, false};
 ghost use Rattle.h26x_fmtp.specs.Parameters.{AreParameters, IsReadAgain};
 ghost use Rattle.h26x_fmtp.specs.Reading.{FormatParameters};
-ghost use Rattle.h26x_answers.specs.AnswerLaws.{IsCommonAnswered, IsAnswerCommon, OfEachAnswer};
+ghost use Rattle.h26x_answers.specs.AnswerLaws.{IsCommonAnswered, IsAnswerCommon, OfEachAnswer, SaysOrder};
 ghost use Rattle.h26x_answers.specs.AnswersH264 as h264_answers;
 ghost use Rattle.h26x_answers.specs.AllowedH264.{IsH264Answer, MaySend, CanDeinterleaveOwn, is_sets_row};
 ghost use Rattle.h26x_answers.specs.AnsweredAgain.{AreAnsweredAgain};
@@ -20,7 +20,8 @@ ghost use Rattle.h26x_sdp.specs.H266Rows as h266;
 
 /// An offer has an answer exactly where one of its formats and one of ours have a configuration in
 /// common, by what both say (RFC 6184, section 8.2.2; RFC 7798, section 7.2.2; RFC 9328, section
-/// 7.3.2); each answer is of such a pair, and keeps the payload type.
+/// 7.3.2), in an order of units that the answerer takes; each answer is of such a pair, and keeps the
+/// payload type.
 pub fn whom_both_understand_is_found()
     ensures h264_found { IsCommonAnswered h264_answers.rules h264_said.IsCommon }
     ensures h264_none { IsAnswerCommon h264_answers.rules h264_said.IsCommon }
@@ -28,6 +29,14 @@ pub fn whom_both_understand_is_found()
     ensures h265_none { IsAnswerCommon h265_answers.rules h265_said.IsCommon }
     ensures h266_found { IsCommonAnswered h266_answers.rules h266_said.IsCommon }
     ensures h266_none { IsAnswerCommon h266_answers.rules h266_said.IsCommon }
+{}
+
+/// Which formats' units may be sent in another order than decoded (RFC 6184, section 6.4; RFC 7798,
+/// section 7.1; RFC 9328, section 7.2).
+pub fn formats_say_their_order()
+    ensures h264 { SaysOrder h264_answers.rules h264_said.Reorders }
+    ensures h265 { SaysOrder h265_answers.rules h265_said.Reorders }
+    ensures h266 { SaysOrder h266_answers.rules h266_said.Reorders }
 {}
 
 /// An answer says what the offer says and what we can do, the most of it; what it says of our stream

@@ -9,5 +9,7 @@ mod cases;
 mod fault;
 pub mod laws;
 
-pub use answer::{CodecRules, Format, Role, Terms, answer_format, answer_to};
+pub use answer::{
+    AnswerConfig, CodecRules, Format, Role, Terms, answer_format, answer_to, own_fault,
+};
 pub use fault::FormatFault;

@@ -9,3 +9,4 @@ pub mod FixedLemmas
 pub mod UnitsLemmas
 pub mod RtpMapLemmas
 pub mod TestLemmas
+pub mod RepairMapLemmas

@@ -11,3 +11,4 @@ pub mod UnitTypes
 pub mod Units
 pub mod UnitsViews
 pub mod RtpMaps
+pub mod RepairMaps

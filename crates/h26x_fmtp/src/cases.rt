@@ -3,10 +3,12 @@
 
 ghost use Rattle.std.specs.Prelude.{◌≡◌, None, Some, Ok, Err, true, false, codes, [], ◌∷◌};
 ghost use Rattle.h26x_fmtp.specs.Kinds.{fault_in, is_tx_mode};
+ghost use Rattle.h26x_fmtp.specs.RepairMaps.{repair_map_of};
 ghost use Rattle.h26x_fmtp.specs.RtpMaps.{rtp_map_of};
 ghost use Rattle.h26x_fmtp.specs.UnitTypes.{is_of, h264_sets, h265_vps, h265_sps, h265_pps, h265_sei, h266_dci, h266_vps, h266_sps, h266_pps, h266_sei};
 ghost use Rattle.h26x_fmtp.specs.declared.error.Fault.TheVariants as fault;
 ghost use Rattle.h26x_fmtp.specs.declared.kind.Kind.TheVariants as kind;
+ghost use Rattle.h26x_fmtp.specs.declared.repair_map.RepairFormat.TheVariants as repair;
 ghost use Rattle.h26x_fmtp.specs.declared.rtp_map.Encoding.TheVariants as encoding;
 ghost use Rattle.h26x_fmtp.specs.declared.rtp_map.RtpMapError.TheVariants as map_error;
 
@@ -24,6 +26,28 @@ pub fn rtp_maps()
     ensures clock { rtp_map_of (codes "98 H265/9000") ≡ Err map_error.ClockRate }
     ensures name { rtp_map_of (codes "98 rtx/90000") ≡ Err map_error.Encoding }
     ensures payload_type { rtp_map_of (codes "128 H264/90000") ≡ Err map_error.PayloadType }
+{}
+
+/// Lines of what goes beside video: of RFC 4588, section 8.7, those that Chromium offers, that of RFC
+/// 8627, and such of other clock rates, names and payload types, as of audio and of a codec.
+pub fn repair_maps()
+    ensures rtx { repair_map_of (codes "97 rtx/90000")
+        ≡ Ok (record { payload_type = 97; format = repair.Rtx }) }
+    ensures red { repair_map_of (codes "123 red/90000")
+        ≡ Ok (record { payload_type = 123; format = repair.Red }) }
+    ensures ulpfec { repair_map_of (codes "125 ulpfec/90000")
+        ≡ Ok (record { payload_type = 125; format = repair.Ulpfec }) }
+    ensures flexfec { repair_map_of (codes "110 flexfec/90000")
+        ≡ Ok (record { payload_type = 110; format = repair.Flexfec }) }
+    ensures flexfec_03 { repair_map_of (codes "35 flexfec-03/90000")
+        ≡ Ok (record { payload_type = 35; format = repair.Flexfec03 }) }
+    ensures upper_case { repair_map_of (codes "0 RTX/90000")
+        ≡ Ok (record { payload_type = 0; format = repair.Rtx }) }
+    ensures audio { repair_map_of (codes "63 red/48000/2") ≡ Err map_error.ClockRate }
+    ensures codec { repair_map_of (codes "96 H264/90000") ≡ Err map_error.Encoding }
+    ensures other_draft { repair_map_of (codes "35 flexfec-04/90000") ≡ Err map_error.Encoding }
+    ensures payload_type { repair_map_of (codes "128 rtx/90000") ≡ Err map_error.PayloadType }
+    ensures no_number { repair_map_of (codes "rtx/90000") ≡ Err map_error.PayloadType }
 {}
 
 /// The types of units that parameters are for: SPS and PPS of H.264 are 7 and 8 (Rec. ITU-T H.264,

@@ -9,6 +9,8 @@ ghost use Rattle.h26x_fmtp.specs.Parameters.{IsTable, AreParameters, IsReadAgain
 ghost use Rattle.h26x_fmtp.specs.Reading.{FormatParameters};
 ghost use Rattle.base64.specs.GeneralPurpose.{IsBytes};
 ghost use Rattle.h26x_fmtp.specs.Units.{AreSpropUnits, sprop_units, units_text};
+ghost use Rattle.h26x_fmtp.specs.declared.repair_map.RepairMap.{RepairMap};
+ghost use Rattle.h26x_fmtp.specs.RepairMaps.{repair_map_of, repair_map_text};
 ghost use Rattle.h26x_fmtp.specs.RtpMaps.{rtp_map_of, rtp_map_text};
 ghost use Rattle.h26x_fmtp.specs.declared.rtp_map.RtpMap.{RtpMap};
 
@@ -54,6 +56,12 @@ pub fn units_and_their_text()
         sprop_units (units_text units) ≡ Ok units }
     ensures written { (text : List ℕ) (units : List (List ℕ)) → IsBytes text →
         sprop_units text ≡ Ok units → units_text units ≡ text }
+{}
+
+/// What is written of a payload type of what goes beside video is read as the same.
+pub fn what_is_written_of_a_repair_map_is_read()
+    ensures { (map : RepairMap) → map.payload_type < 128 →
+        repair_map_of (repair_map_text map) ≡ Ok map }
 {}
 
 /// What is written of a payload type and its encoding is read as the same.

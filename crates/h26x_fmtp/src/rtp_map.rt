@@ -79,8 +79,8 @@ impl Encoding {
     }
 }
 
-/// The payload type that a text says.
-fn payload_type_in(text: &[u8]) -> Option<u8>
+/// The payload type that a text says: a number of 7 bits (RFC 3550, section 5.1). It takes no memory.
+pub fn payload_type_in(text: &[u8]) -> Option<u8>
     ensures { result ≡ spec.payload_type_in text.now }
 {
     match number_in(text) {

@@ -101,7 +101,7 @@ digits_test (c ∷ cs) h =
     let first : nat_lt (digit_value c) 10 ≡ true = grind (arith, nat_tests, low) in
     and_from (nat_lt (digit_value c) 10) (are_digits_of 10 cs) first (digits_test cs h.1)
 
-number_back : (n : ℕ) → n < 2 ^ 64 → number_in (decimal n) ≡ Ok n
+pub number_back : (n : ℕ) → n < 2 ^ 64 → number_in (decimal n) ≡ Ok n
 number_back n small =
     let is = decimal_is_IsNumeral n small in
     let value : digits_value 10 (decimal n) ≡ n = is.1 in
@@ -130,7 +130,7 @@ number_trimmed n small =
     }
 
 -- the limits of a point are values of the table's
-number_value : (name : List ℕ) (default : Option (List ℕ)) (most n : ℕ) → n ≤ most → n < 2 ^ 64 → IsValue (record { name = name; kind = Number 0 most; default = default }) (decimal n)
+pub number_value : (name : List ℕ) (default : Option (List ℕ)) (most n : ℕ) → n ≤ most → n < 2 ^ 64 → IsValue (record { name = name; kind = Number 0 most; default = default }) (decimal n)
 number_value name default most n within small =
     let low : nat_le 0 n ≡ true = grind (arith, nat_tests) in
     let high : nat_le n most ≡ true = grind (arith, nat_tests, within) in
@@ -143,12 +143,12 @@ number_value name default most n within small =
 limit_small : (most n : ℕ) → most < 2 ^ 64 → n ≤ most → n < 2 ^ 64
 limit_small most n small within = omega (arith, small, within)
 
-limit_value : (name : List ℕ) (default : Option (List ℕ)) (most : ℕ) (limit : Option ℕ) → most < 2 ^ 64 → IsAtMost most limit
+pub limit_value : (name : List ℕ) (default : Option (List ℕ)) (most : ℕ) (limit : Option ℕ) → most < 2 ^ 64 → IsAtMost most limit
     → IsValueIfGiven (record { name = name; kind = Number 0 most; default = default }) (option_map decimal limit)
 limit_value name default most None small within = tt
 limit_value name default most (Some n) small within = number_value name default most n within (limit_small most n small within)
 
-limit_back : (most : ℕ) (limit : Option ℕ) → most < 2 ^ 64 → IsAtMost most limit → option_and_then (number_of (Number 0 most)) (option_map decimal limit) ≡ limit
+pub limit_back : (most : ℕ) (limit : Option ℕ) → most < 2 ^ 64 → IsAtMost most limit → option_and_then (number_of (Number 0 most)) (option_map decimal limit) ≡ limit
 limit_back most None small within = refl
 limit_back most (Some n) small within = ap result_ok (number_back n (limit_small most n small within))
 
@@ -356,12 +356,12 @@ range_bound most (Ok n) h = by_test (nat_le 0 n && nat_le n most)
     (λ passes. let high = (and_parts (nat_le 0 n) (nat_le n most) passes).1 in grind (arith, nat_tests, high))
     (λ fails. let e : Some OutOfRange ≡ None = sym (ap (λ t. cond t None (Some OutOfRange)) fails) ∙ h in cc e)
 
-value_bound : (name : List ℕ) (default : Option (List ℕ)) (most : ℕ) (value : Option (List ℕ)) → IsValueIfGiven (record { name = name; kind = Number 0 most; default = default }) value
+pub value_bound : (name : List ℕ) (default : Option (List ℕ)) (most : ℕ) (value : Option (List ℕ)) → IsValueIfGiven (record { name = name; kind = Number 0 most; default = default }) value
     → IsAtMost most (option_and_then (number_of (Number 0 most)) value)
 value_bound name default most None is = tt
 value_bound name default most (Some value) is = range_bound most (number_in value) is.fits
 
-value_of_row : (table : List ParameterRow) (values : List (Option (List ℕ))) → AreValues table values → (k : ℕ) → k < length table → IsValueIfGiven (row_at table k) (value_at values k)
+pub value_of_row : (table : List ParameterRow) (values : List (Option (List ℕ))) → AreValues table values → (k : ℕ) → k < length table → IsValueIfGiven (row_at table k) (value_at values k)
 value_of_row [] values are k within = absurd (omega (arith, within))
 value_of_row (row ∷ table) [] are k within = absurd are
 value_of_row (row ∷ table) (value ∷ values) are zero within = are.0

@@ -3,3 +3,4 @@ pub mod ConstraintsLemmas
 pub mod LevelSetsLemmas
 pub mod CapabilityPointsLemmas
 pub mod DigitLemmas
+pub mod RtxLemmas

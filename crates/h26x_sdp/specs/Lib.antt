@@ -8,3 +8,5 @@ pub mod CapabilityPointsViews
 pub mod TableNumbers
 pub mod Constraints
 pub mod ConstraintsViews
+pub mod Rtx
+pub mod RtxViews

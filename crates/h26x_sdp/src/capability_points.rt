@@ -246,11 +246,11 @@ pub fn read_capability_points(
     }
 }
 
-/// The text of a limit, if it's given.
-fn limit_text(alloc: Global, limit: Option<u64>) -> Result<Option<Vec<u8>>, AllocError>
-    ensures { IfOk result (λ text. value_view text ≡ option_map decimal limit) }
+/// The text of a number, if it's given.
+pub(crate) fn number_text(alloc: Global, number: Option<u64>) -> Result<Option<Vec<u8>>, AllocError>
+    ensures { IfOk result (λ text. value_view text ≡ option_map decimal number) }
 {
-    match limit {
+    match number {
         Some(number) => Ok(Some(format!(in alloc; "{number}")?.into_bytes())),
         None => Ok(None),
     }
@@ -261,11 +261,11 @@ fn limits_text(alloc: Global, point: &CapabilityPoint) -> Result<Vec<u8>, AllocE
     ensures { IfOk result (λ text. text.items ≡ spec.limits_text point.now) }
 {
     let mut values = Vec::with_capacity(alloc, 5)?;
-    values.push(limit_text(alloc, point.tier_flag)?)?;
-    values.push(limit_text(alloc, point.level_id)?)?;
-    values.push(limit_text(alloc, point.max_lsr)?)?;
-    values.push(limit_text(alloc, point.max_lps)?)?;
-    values.push(limit_text(alloc, point.max_br)?)?;
+    values.push(number_text(alloc, point.tier_flag)?)?;
+    values.push(number_text(alloc, point.level_id)?)?;
+    values.push(number_text(alloc, point.max_lsr)?)?;
+    values.push(number_text(alloc, point.max_lps)?)?;
+    values.push(number_text(alloc, point.max_br)?)?;
     let others = Vec::new(alloc);
     parameters::write(alloc, &ROWS, &FormatParameters { values, others })
 }

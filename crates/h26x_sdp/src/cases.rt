@@ -2,7 +2,11 @@
 //! is taken where one is absent, and the bounds of each that is a number. Each is the contract of a
 //! function without a result.
 
-ghost use Rattle.std.specs.Prelude.{◌≡◌, codes, length, [], ◌∷◌};
+ghost use Rattle.std.specs.Prelude.{◌≡◌, codes, length, [], ◌∷◌, Some, None, Ok, Err};
+ghost use Rattle.h26x_fmtp.specs.declared.error.Fault.TheVariants as fault;
+ghost use Rattle.h26x_fmtp.specs.declared.error.ParametersError.TheVariants as refused;
+ghost use Rattle.h26x_sdp.specs.declared.error.RtxError.TheVariants as rtx;
+ghost use Rattle.h26x_sdp.specs.Rtx.{rtx_rows, rtx_format_of};
 ghost use Rattle.h26x_sdp.specs.TableNumbers.{defaults, bounds};
 ghost use Rattle.h26x_sdp.specs.H264Rows as h264;
 ghost use Rattle.h26x_sdp.specs.H265Rows as h265;
@@ -94,4 +98,27 @@ pub fn h266_bounds()
         ∷ (codes "sprop-max-don-diff", 0, 32767)
         ∷ (codes "sprop-depack-buf-bytes", 0, 4294967295)
         ∷ (codes "depack-buf-cap", 1, 4294967295) ∷ [] }
+{}
+
+/// The parameters of retransmission: the line of RFC 4588, section 8.7, that of browsers, and such that
+/// have no payload type, one above 127, one that is none, or two.
+#[tactic(auto, unfolding(h26x_fmtp::specs::Reading::reading))]
+pub fn formats_of_retransmission()
+    ensures count { length rtx_rows ≡ 2 }
+    ensures bounds { bounds rtx_rows
+        ≡ (codes "apt", 0, 127) ∷ (codes "rtx-time", 0, 18446744073709551615) ∷ [] }
+    ensures whole { rtx_format_of (codes "apt=96;rtx-time=3000")
+        ≡ Ok (record { payload_type = 96; rtx_time = Some 3000 }) }
+    ensures browsers { rtx_format_of (codes "apt=127")
+        ≡ Ok (record { payload_type = 127; rtx_time = None }) }
+    ensures spaced { rtx_format_of (codes "RTX-Time=200; x=1; APT = 0")
+        ≡ Ok (record { payload_type = 0; rtx_time = Some 200 }) }
+    ensures none { rtx_format_of (codes "rtx-time=3000") ≡ Err rtx.NoPayloadType }
+    ensures empty { rtx_format_of [] ≡ Err rtx.NoPayloadType }
+    ensures above { rtx_format_of (codes "rtx-time=3000;apt=128")
+        ≡ Err (rtx.Parameters (refused.Refused 1 fault.OutOfRange)) }
+    ensures no_number { rtx_format_of (codes "apt=H264")
+        ≡ Err (rtx.Parameters (refused.Refused 0 fault.NotANumber)) }
+    ensures twice { rtx_format_of (codes "apt=96;apt=96")
+        ≡ Err (rtx.Parameters (refused.Refused 1 fault.Twice)) }
 {}

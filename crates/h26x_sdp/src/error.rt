@@ -125,3 +125,19 @@ impl<T: Drop> From<AllocFailed<T>> for CapabilityPointsError {
         CapabilityPointsError::OutOfMemory
     }
 }
+
+/// Why a text is no format of retransmission. A refused call changes nothing.
+#[derive(Debug, Clone, Copy, PartialEq, Eq, Error)]
+pub enum RtxError {
+    /// The parameters have this fault.
+    #[error("{0}")]
+    Parameters(ParametersError),
+
+    /// There is no `apt`, which RFC 4588, section 8.3, asks for.
+    #[error("no associated payload type")]
+    NoPayloadType,
+
+    /// The allocator had no memory.
+    #[error("out of memory")]
+    OutOfMemory,
+}

@@ -8,6 +8,8 @@ ghost use Rattle.h26x_sdp.specs.LevelSets.{LevelSets, AreLevelSets, level_sets_i
 ghost use Rattle.h26x_sdp.specs.Constraints.{as_constraints, constraints_in, constraints_text};
 ghost use Rattle.h26x_sdp.specs.CapabilityPoints.{AreCapabilityPoints, capability_points_in, capability_points_text};
 ghost use Rattle.h26x_sdp.specs.declared.capability_points.CapabilityPoint.{CapabilityPoint};
+ghost use Rattle.h26x_sdp.specs.Rtx.{IsRtxFormat, rtx_rows, rtx_format_of, rtx_format_text};
+ghost use Rattle.h26x_sdp.specs.declared.rtx.RtxFormat.{RtxFormat};
 ghost use Rattle.h26x_sdp.specs.H264Rows as h264;
 ghost use Rattle.h26x_sdp.specs.H265Rows as h265;
 ghost use Rattle.h26x_sdp.specs.H266Rows as h266;
@@ -46,4 +48,13 @@ pub fn capability_points_and_their_text()
     ensures again { (text : List ℕ) (points : List CapabilityPoint) →
         capability_points_in text ≡ Ok points →
         capability_points_in (capability_points_text points) ≡ Ok points }
+{}
+
+/// The parameters of retransmission are a table. What is written of such a format is read as the same,
+/// and what is read is read again of what is written of it.
+pub fn formats_of_retransmission_and_their_text()
+    ensures table { IsTable rtx_rows }
+    ensures read { (it : RtxFormat) → IsRtxFormat it → rtx_format_of (rtx_format_text it) ≡ Ok it }
+    ensures again { (text : List ℕ) (it : RtxFormat) → rtx_format_of text ≡ Ok it →
+        rtx_format_of (rtx_format_text it) ≡ Ok it }
 {}

@@ -21,6 +21,7 @@ use Rattle.h26x_fmtp.specs.Kinds.{unit_types}
 use Rattle.h26x_fmtp.specs.Written.{written}
 use Rattle.h26x_fmtp.specs.Units.{sprop_units_at}
 use Rattle.h26x_fmtp.specs.UnitsViews.{units_view}
+use Rattle.h26x_answers.specs.declared.answer.AnswerConfig.{AnswerConfig}
 use Rattle.h26x_answers.specs.Answers.{Rules, allowed_answer}
 use Rattle.h26x_answers.specs.AnswersH264 as h264_answers
 use Rattle.h26x_answers.specs.AnswersH265 as h265_answers
@@ -86,18 +87,20 @@ OfPayloadUnits codec payload Holds =
     (units : List (List ℕ)) × AreUnits (zero_rule codec) payload units × Holds units
 
 -- the answer to an offered format by one of ours, or that there is none
-abbrev pub answer_or_code : Rules → FormatParameters → FormatParameters → Result FormatParameters ℕ
-answer_or_code rules offered ours = ok_or (allowed_answer rules offered ours) no_answer
+abbrev pub answer_or_code : Rules → AnswerConfig → FormatParameters → FormatParameters →
+    Result FormatParameters ℕ
+answer_or_code rules config offered ours =
+    ok_or (allowed_answer rules config offered ours) no_answer
 
 -- the same by their codec: of two codecs there is none
-abbrev pub sdp_answer : SdpEndpoint → SdpEndpoint → Result SdpEndpoint ℕ
-sdp_answer (s.H264 offered) (s.H264 ours) =
-    result_map_both s.H264 (λ code. code) (answer_or_code h264_answers.rules offered ours)
-sdp_answer (s.H265 offered) (s.H265 ours) =
-    result_map_both s.H265 (λ code. code) (answer_or_code h265_answers.rules offered ours)
-sdp_answer (s.H266 offered) (s.H266 ours) =
-    result_map_both s.H266 (λ code. code) (answer_or_code h266_answers.rules offered ours)
-sdp_answer offered ours = Err no_answer
+abbrev pub sdp_answer : AnswerConfig → SdpEndpoint → SdpEndpoint → Result SdpEndpoint ℕ
+sdp_answer config (s.H264 offered) (s.H264 ours) =
+    result_map_both s.H264 (λ code. code) (answer_or_code h264_answers.rules config offered ours)
+sdp_answer config (s.H265 offered) (s.H265 ours) =
+    result_map_both s.H265 (λ code. code) (answer_or_code h265_answers.rules config offered ours)
+sdp_answer config (s.H266 offered) (s.H266 ours) =
+    result_map_both s.H266 (λ code. code) (answer_or_code h266_answers.rules config offered ours)
+sdp_answer config offered ours = Err no_answer
 
 -- parameters as they are written
 abbrev pub sdp_text : SdpEndpoint → List ℕ

@@ -13,7 +13,7 @@ use crate::sdp_code::{
     ABSENT, NO_ANSWER, OTHER_KIND, Refused, UNKNOWN_NAME, of_parameters, of_stream,
 };
 use crate::sdp_parameter::{ListedParameter, parameter_of};
-use h26x_answers::answer_format;
+use h26x_answers::{AnswerConfig, answer_format};
 use h26x_codec::Codec;
 use h26x_codes::code::{NOT_OF_THIS_CODEC, OUT_OF_MEMORY};
 use h26x_fmtp::{Kind, OtherParameter};
@@ -85,14 +85,16 @@ fn number_of<P: ListedParameter>(
 /// The answer to an offered format by one of ours, or that there is none.
 fn answer_of<P: ListedParameter>(
     alloc: Global,
+    config: AnswerConfig,
     offered: &KeptParameters<P>,
     ours: &KeptParameters<P>,
 ) -> Result<KeptParameters<P>, u32>
-    ensures { spec.IsOrOutOfMemory result
-        (spec.answer_or_code (rules_of P.rows P.roles P.terms P.known P.fault) offered.now ours.now) }
+    ensures { spec.IsOrOutOfMemory result (spec.answer_or_code
+        (rules_of P.rows P.roles P.terms P.known P.fault P.reorders) config offered.now ours.now) }
 {
     match answer_format(
         alloc,
+        config,
         offered.parameters(),
         slice::from_ref(ours.parameters()),
     ) {
@@ -147,18 +149,23 @@ impl SdpEndpoint {
     }
 
     /// The answer to an offered format by one of ours; there is none of another codec.
-    pub fn answer(&self, alloc: Global, ours: &SdpEndpoint) -> Result<Self, u32>
-        ensures { spec.IsOrOutOfMemory result (spec.sdp_answer self.now ours.now) }
+    pub fn answer(
+        &self,
+        alloc: Global,
+        config: AnswerConfig,
+        ours: &SdpEndpoint,
+    ) -> Result<Self, u32>
+        ensures { spec.IsOrOutOfMemory result (spec.sdp_answer config self.now ours.now) }
     {
         match (self, ours) {
             (SdpEndpoint::H264(offered), SdpEndpoint::H264(ours)) => {
-                Ok(SdpEndpoint::H264(answer_of(alloc, offered, ours)?))
+                Ok(SdpEndpoint::H264(answer_of(alloc, config, offered, ours)?))
             }
             (SdpEndpoint::H265(offered), SdpEndpoint::H265(ours)) => {
-                Ok(SdpEndpoint::H265(answer_of(alloc, offered, ours)?))
+                Ok(SdpEndpoint::H265(answer_of(alloc, config, offered, ours)?))
             }
             (SdpEndpoint::H266(offered), SdpEndpoint::H266(ours)) => {
-                Ok(SdpEndpoint::H266(answer_of(alloc, offered, ours)?))
+                Ok(SdpEndpoint::H266(answer_of(alloc, config, offered, ours)?))
             }
             _ => Err(NO_ANSWER),
         }

@@ -20,6 +20,8 @@
 //! # Ok::<(), Box<dyn std::error::Error>>(())
 //! ```
 //!
+//! [`RepairMap`] and [`RtxFormat`] are of what goes beside video: RTX, RED and FEC.
+//!
 //! [`CodecParameters::answer`] and [`Format::answer_to`] answer an offer (RFC 3264, section 6), and
 //! [`H264Parameters::of_payload`](CodecParameters::of_payload), and the same of the others, is what a sender says of its
 //! stream. For what depends on it, `packetization-mode` 0 needs [`fits_single_units`], and `sprop-max-don-diff` goes to
@@ -41,17 +43,18 @@ mod h265;
 mod h266;
 mod modes;
 mod parameters;
+mod repair;
 mod rtp_map;
 #[cfg(feature = "serde")]
 mod stored;
 mod typed;
 
-pub use crate::proved::h26x_fmtp::{Fault, ParametersError, RtpMapError, UnitsError};
+pub use crate::proved::h26x_fmtp::{Fault, ParametersError, RepairFormat, RtpMapError, UnitsError};
 pub use crate::proved::h26x_sdp::{
     CapabilityPoint, CapabilityPointsError, H264Parameter, H265Parameter, H266Parameter, LevelSets,
     ParallelTool,
 };
-pub use crate::proved::h26x_sdp::{ConstraintsError, LevelSetsError};
+pub use crate::proved::h26x_sdp::{ConstraintsError, LevelSetsError, RtxError};
 pub use crate::proved::h26x_stream_parameters::{StreamError, fits_single_units};
 pub use answer::{Format, OutOfMemory};
 pub use fault::{BrokenRule, SetError};
@@ -60,6 +63,7 @@ pub use h265::H265Parameters;
 pub use h266::H266Parameters;
 pub use modes::{PacketizationMode, TxMode};
 pub use parameters::{CodecParameters, Parameter, read_units, write_units};
+pub use repair::{RepairMap, RtxFormat};
 pub use rtp_map::RtpMap;
 pub use typed::{
     InteropConstraints, read_capability_points, read_level_sets, write_capability_points,

@@ -277,6 +277,8 @@ fn run(seed: u64, most: u64, is_over: &AtomicBool) -> [u64; 4] {
             values += u64::from(draw_value(&mut drawn, &mut value));
         }
         let _ = text.parse::<RtpMap>();
+        let _ = text.parse::<RepairMap>();
+        let _ = text.parse::<RtxFormat>();
         let _ = read_units(&text);
         counts = [
             counts[0] + 1,

@@ -363,6 +363,8 @@ impl CodecRules for H264Parameter {
 
     ghost fault = { spec.fault };
 
+    ghost reorders = { spec.is_interleaved };
+
     fn roles() -> &'static [Role] {
         &ROLES
     }
@@ -381,5 +383,9 @@ impl CodecRules for H264Parameter {
 
     fn fault(own: &H264Parameters) -> Option<FormatFault> {
         own_h264::fault(own)
+    }
+
+    fn reorders(it: &H264Parameters) -> bool {
+        is_interleaved(it)
     }
 }

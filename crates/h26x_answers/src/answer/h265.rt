@@ -6,7 +6,7 @@ ghost use Rattle.hex.specs.Hex.{decode_sized};
 ghost use Rattle.h26x_answers.specs.AnswersH265 as spec;
 ghost use Rattle.h26x_answers.specs.AnswersViews.{terms_view};
 
-use crate::answer::by_level::{LevelParameters, terms_by_level};
+use crate::answer::by_level::{LevelParameters, is_positive, terms_by_level};
 use crate::answer::{CodecRules, Role, Terms, own_h265, same_number};
 use crate::fault::FormatFault;
 use h26x_sdp::{H265Parameter, H265Parameters};
@@ -121,6 +121,8 @@ impl CodecRules for H265Parameter {
 
     ghost fault = { own.fault };
 
+    ghost reorders = { spec.reorders };
+
     fn roles() -> &'static [Role] {
         &ROLES
     }
@@ -139,5 +141,9 @@ impl CodecRules for H265Parameter {
 
     fn fault(own: &H265Parameters) -> Option<FormatFault> {
         own_h265::fault(own)
+    }
+
+    fn reorders(it: &H265Parameters) -> bool {
+        is_positive(it.number_or_default(H265Parameter::SpropMaxDonDiff))
     }
 }

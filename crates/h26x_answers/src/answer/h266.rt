@@ -5,7 +5,7 @@ ghost use Rattle.std.specs.Option.{option_map};
 ghost use Rattle.h26x_answers.specs.AnswersH266 as spec;
 ghost use Rattle.h26x_answers.specs.AnswersViews.{terms_view};
 
-use crate::answer::by_level::{LevelParameters, terms_by_level};
+use crate::answer::by_level::{LevelParameters, is_positive, terms_by_level};
 use crate::answer::{CodecRules, Role, Terms, own_h266, same_if_given, same_number};
 use crate::fault::FormatFault;
 use h26x_fmtp::Kind;
@@ -108,6 +108,8 @@ impl CodecRules for H266Parameter {
 
     ghost fault = { own.fault };
 
+    ghost reorders = { spec.reorders };
+
     fn roles() -> &'static [Role] {
         &ROLES
     }
@@ -126,5 +128,9 @@ impl CodecRules for H266Parameter {
 
     fn fault(own: &H266Parameters) -> Option<FormatFault> {
         own_h266::fault(own)
+    }
+
+    fn reorders(it: &H266Parameters) -> bool {
+        is_positive(it.number_or_default(H266Parameter::SpropMaxDonDiff))
     }
 }

@@ -23,6 +23,7 @@ pub fn check(codec: Codec, input: &mut Input) {
     }
     check_units(&value);
     check_payload_type(&text);
+    check_retransmission(&text);
 }
 
 /// What a stream says of itself, out of its bytes and out of its units, and whether these fit packets of their own.
@@ -224,22 +225,25 @@ const SETS: [&str; 7] = [
     "sprop-sei",
 ];
 
-/// An answer is written and read as the same, has our own others, and is answered with itself but for its sets, where
-/// units are sent in decoding order.
+/// An answer is written and read as the same, has our own others, and is answered with itself but for its sets. An end
+/// that takes units in any order answers the same where both send them as they are decoded, and else alone.
 fn check_answer<P: Parameter>(offered: &CodecParameters<P>, own: &CodecParameters<P>) {
     let ours = std::slice::from_ref(own);
-    let Some(answer) = offered.answer(ours).expect("memory") else {
+    let any_order = offered.answer_any_order(ours).expect("memory");
+    let answer = offered.answer(ours).expect("memory");
+    if is_out_of_order(offered) || is_out_of_order(own) {
+        assert_eq!(answer, None);
+        if let Some(answer) = any_order {
+            check_written(&answer);
+        }
+        return;
+    }
+    assert_eq!(answer, any_order);
+    let Some(answer) = answer else {
         return;
     };
     check_written(&answer);
     assert!(answer.others().eq(own.others()));
-    let above = |name, least| {
-        let number = P::of_name(name).and_then(|it| answer.number(it));
-        number.is_some_and(|it| it > least)
-    };
-    if above("packetization-mode", 1) || above("sprop-max-don-diff", 0) {
-        return;
-    }
     let again = answer
         .answer(ours)
         .expect("memory")
@@ -252,6 +256,17 @@ fn check_answer<P: Parameter>(offered: &CodecParameters<P>, own: &CodecParameter
             .collect::<String>()
     };
     assert_eq!(without(&again), without(&answer));
+}
+
+fn is_out_of_order<P: Parameter>(format: &CodecParameters<P>) -> bool {
+    let above = |name, least| {
+        let number = P::of_name(name).and_then(|it| format.number(it));
+        number.is_some_and(|it| it > least)
+    };
+    match P::of_name("packetization-mode") {
+        Some(_) => above("packetization-mode", 1),
+        None => above("sprop-max-don-diff", 0),
+    }
 }
 
 /// The bytes of base64 with its padding (RFC 4648, section 4), bit by bit.
@@ -295,39 +310,95 @@ fn check_units(text: &str) {
     }
 }
 
-/// `PAYLOAD-TYPE NAME/90000`, with white space at its ends and before the name.
+/// `PAYLOAD-TYPE NAME/90000`, with white space at its ends and before the name: of a codec, or of what goes beside it.
 fn check_payload_type(text: &str) {
     let (number, rest) = text
         .trim_ascii()
         .split_once(' ')
         .unwrap_or((text.trim_ascii(), ""));
-    let is_digits = !number.is_empty() && number.bytes().all(|it| it.is_ascii_digit());
-    let number = number
-        .parse::<u8>()
-        .ok()
-        .filter(|it| is_digits && *it < 128);
+    let number = payload_type_of(number);
     let (name, clock) = rest
         .trim_ascii()
         .split_once('/')
         .unwrap_or((rest.trim_ascii(), ""));
-    let codec = match name.to_ascii_uppercase().as_str() {
-        "H264" => Some(Codec::H264),
-        "H265" => Some(Codec::H265),
-        "H266" => Some(Codec::H266),
+    let name = name.to_ascii_lowercase();
+    let codec = match name.as_str() {
+        "h264" => Some(Codec::H264),
+        "h265" => Some(Codec::H265),
+        "h266" => Some(Codec::H266),
         _ => None,
     };
-    let read = text.parse::<RtpMap>();
-    match (number, codec, clock) {
-        (None, _, _) => assert_eq!(read, Err(RtpMapError::PayloadType)),
-        (_, None, _) => assert_eq!(read, Err(RtpMapError::Encoding)),
-        (Some(number), Some(codec), "90000") => {
-            let map = RtpMap::new(number, codec).expect("below 128");
-            assert_eq!(read, Ok(map));
-            assert_eq!(
-                map.to_string(),
-                format!("{number} {}/90000", name.to_ascii_uppercase())
-            );
+    let beside = match name.as_str() {
+        "rtx" => Some(RepairFormat::Rtx),
+        "red" => Some(RepairFormat::Red),
+        "ulpfec" => Some(RepairFormat::Ulpfec),
+        "flexfec" => Some(RepairFormat::Flexfec),
+        "flexfec-03" => Some(RepairFormat::Flexfec03),
+        _ => None,
+    };
+    let map = wanted(number, codec, clock);
+    let map = map.map(|(number, codec)| RtpMap::new(number, codec).expect("below 128"));
+    assert_eq!(text.parse::<RtpMap>(), map);
+    if let Ok(map) = map {
+        let upper = name.to_ascii_uppercase();
+        assert_eq!(
+            map.to_string(),
+            format!("{} {upper}/90000", map.payload_type())
+        );
+    }
+    let map = wanted(number, beside, clock);
+    let map = map.map(|(number, format)| RepairMap::new(number, format).expect("below 128"));
+    assert_eq!(text.parse::<RepairMap>(), map);
+    if let Ok(map) = map {
+        assert_eq!(
+            map.to_string(),
+            format!("{} {name}/90000", map.payload_type())
+        );
+    }
+}
+
+fn wanted<T>(number: Option<u8>, of: Option<T>, clock: &str) -> Result<(u8, T), RtpMapError> {
+    let number = number.ok_or(RtpMapError::PayloadType)?;
+    let of = of.ok_or(RtpMapError::Encoding)?;
+    match clock {
+        "90000" => Ok((number, of)),
+        _ => Err(RtpMapError::ClockRate),
+    }
+}
+
+/// The number of 7 bits that a text of digits says.
+fn payload_type_of(text: &str) -> Option<u8> {
+    let is_digits = !text.is_empty() && text.bytes().all(|it| it.is_ascii_digit());
+    let number = text.parse::<u8>().ok();
+    number.filter(|it| is_digits && *it < 128)
+}
+
+/// `apt` and `rtx-time` (RFC 4588, 8.6): each once, a number of 7 bits and one of 64.
+fn check_retransmission(text: &str) {
+    let read = text.parse::<RtxFormat>();
+    let all = pairs(text).unwrap_or_default();
+    let values = |wanted: &str| {
+        let named = all
+            .iter()
+            .filter(|it| it.0.eq_ignore_ascii_case(wanted))
+            .map(|it| it.1);
+        named.collect::<Vec<_>>()
+    };
+    let (types, times) = (values("apt"), values("rtx-time"));
+    let time = times.first().map(|it| {
+        let is_digits = !it.is_empty() && it.bytes().all(|it| it.is_ascii_digit());
+        it.parse::<u64>().ok().filter(|_| is_digits)
+    });
+    let is_whole = pairs(text).is_some() && types.len() < 2 && times.len() < 2;
+    match (types.first().map(|it| payload_type_of(it)), time, is_whole) {
+        (Some(Some(number)), None, true) => assert_eq!(read.ok(), RtxFormat::new(number, None)),
+        (Some(Some(number)), Some(Some(time)), true) => {
+            assert_eq!(read.ok(), RtxFormat::new(number, Some(time)));
         }
-        _ => assert_eq!(read, Err(RtpMapError::ClockRate)),
+        (None, None | Some(Some(_)), true) => assert_eq!(read, Err(RtxError::NoPayloadType)),
+        _ => assert!(matches!(read, Err(RtxError::Parameters(_))), "{text}"),
+    }
+    if let Ok(format) = read {
+        assert_eq!(format.to_string().parse(), Ok(format));
     }
 }

@@ -1,7 +1,7 @@
 //! Answers to offers.
 
 use super::{BrokenRule, CodecParameters, Parameter};
-use crate::proved::h26x_answers::{FormatFault, answer_format};
+use crate::proved::h26x_answers::{AnswerConfig, FormatFault, answer_format, own_fault};
 use crate::support::AllocError;
 use core::error::Error;
 use core::fmt;
@@ -41,7 +41,8 @@ impl<P: Parameter> CodecParameters<P> {
     /// Profile, packetization mode and what else is of both directions are as offered and as ours; the level is the
     /// lower one, or our own where both ends allow each direction its own; the rest is ours. What each end may send
     /// then fits what the other said that it receives. An offer of a profile or level that the standard hasn't has no
-    /// answer, and one of ours with a [`broken_rule`](Self::broken_rule) gives none.
+    /// answer, nor has one whose units may be sent in another order than decoded (`packetization-mode` 2,
+    /// `sprop-max-don-diff` above 0), and one of ours with a [`broken_rule`](Self::broken_rule) gives none.
     ///
     /// ```
     /// use emupedestal::sdp::H264Parameters;
@@ -58,15 +59,39 @@ impl<P: Parameter> CodecParameters<P> {
     ///
     /// Where memory lacks.
     pub fn answer(&self, ours: &[Self]) -> Result<Option<Self>, OutOfMemory> {
+        self.answer_by(AnswerConfig::default(), ours)
+    }
+
+    /// The same by an end that takes units in any order: one that reads STAP-B, MTAP and FU-B of H.264, which this crate
+    /// doesn't, and puts units in order by their decoding order numbers.
+    ///
+    /// ```
+    /// use emupedestal::sdp::{BrokenRule, H265Parameters};
+    ///
+    /// let own: H265Parameters = "sprop-max-don-diff=4;sprop-depack-buf-nalus=2;sprop-depack-buf-bytes=9000".parse()?;
+    /// assert_eq!(own.broken_rule(), Some(BrokenRule::OutOfOrder));
+    /// assert!(own.answer(&[own.clone()])?.is_none() && own.answer_any_order(&[own.clone()])?.is_some());
+    /// # Ok::<(), Box<dyn std::error::Error>>(())
+    /// ```
+    ///
+    /// # Errors
+    ///
+    /// Where memory lacks.
+    pub fn answer_any_order(&self, ours: &[Self]) -> Result<Option<Self>, OutOfMemory> {
+        self.answer_by(AnswerConfig { any_order: true }, ours)
+    }
+
+    fn answer_by(&self, config: AnswerConfig, ours: &[Self]) -> Result<Option<Self>, OutOfMemory> {
         for own in ours {
-            if let Some(of) = answer_format(&self.of, slice::from_ref(&own.of))? {
+            if let Some(of) = answer_format(config, &self.of, slice::from_ref(&own.of))? {
                 return Ok(Some(CodecParameters { of }));
             }
         }
         Ok(None)
     }
 
-    /// The first rule of its RFC that these parameters break as a format of one's own, if they break one.
+    /// The first rule that these parameters break as a format of one's own, if they break one: of its RFC, or that units
+    /// are sent in the order in which they are decoded.
     ///
     /// ```
     /// use emupedestal::sdp::{BrokenRule, H264Parameter, H264Parameters};
@@ -76,12 +101,13 @@ impl<P: Parameter> CodecParameters<P> {
     /// # Ok::<(), emupedestal::sdp::ParametersError>(())
     /// ```
     pub fn broken_rule(&self) -> Option<BrokenRule<P>> {
-        Some(match P::fault(&self.of)? {
+        Some(match own_fault(AnswerConfig::default(), &self.of)? {
             FormatFault::Profile => BrokenRule::Profile,
             FormatFault::Level => BrokenRule::Level,
             FormatFault::HighestLevel => BrokenRule::HighestLevel,
             FormatFault::BelowLevel { place } => BrokenRule::BelowLevel(*P::all().get(place)?),
             FormatFault::Reordering => BrokenRule::Reordering,
+            FormatFault::OutOfOrder => BrokenRule::OutOfOrder,
         })
     }
 }
@@ -114,8 +140,28 @@ impl<P: Parameter> Format<P> {
         offer: &[Self],
         ours: &[CodecParameters<P>],
     ) -> Result<Option<Self>, OutOfMemory> {
+        Self::answer_by(AnswerConfig::default(), offer, ours)
+    }
+
+    /// The same by an end that takes units in any order, as [`CodecParameters::answer_any_order`].
+    ///
+    /// # Errors
+    ///
+    /// Where memory lacks.
+    pub fn answer_to_any_order(
+        offer: &[Self],
+        ours: &[CodecParameters<P>],
+    ) -> Result<Option<Self>, OutOfMemory> {
+        Self::answer_by(AnswerConfig { any_order: true }, offer, ours)
+    }
+
+    fn answer_by(
+        config: AnswerConfig,
+        offer: &[Self],
+        ours: &[CodecParameters<P>],
+    ) -> Result<Option<Self>, OutOfMemory> {
         for offered in offer {
-            if let Some(parameters) = offered.parameters.answer(ours)? {
+            if let Some(parameters) = offered.parameters.answer_by(config, ours)? {
                 let payload_type = offered.payload_type;
                 return Ok(Some(Format {
                     payload_type,

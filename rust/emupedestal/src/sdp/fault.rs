@@ -51,6 +51,9 @@ pub enum BrokenRule<P> {
     BelowLevel(P),
     /// What is said of packets out of order stands where there are none, or is absent where there are.
     Reordering,
+    /// Units may be sent in another order than decoded, which only
+    /// [`answer_any_order`](super::CodecParameters::answer_any_order) takes.
+    OutOfOrder,
 }
 
 impl<P: fmt::Display> fmt::Display for BrokenRule<P> {
@@ -61,6 +64,7 @@ impl<P: fmt::Display> fmt::Display for BrokenRule<P> {
             BrokenRule::HighestLevel => write!(f, "the highest level isn't one above the level"),
             BrokenRule::BelowLevel(it) => write!(f, "{it} is below what the level asks for"),
             BrokenRule::Reordering => write!(f, "what is said of packets out of order doesn't fit"),
+            BrokenRule::OutOfOrder => write!(f, "units may be sent in another order than decoded"),
         }
     }
 }

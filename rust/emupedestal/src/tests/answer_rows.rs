@@ -10,14 +10,15 @@ const TEXT: &str = include_str!(concat!(
     "/../../bindings/streams/answers.txt"
 ));
 
-/// The answer to an offer by one of ours, as the text has it.
-fn answered<P: Parameter>(offer: &str, ours: &str) -> String {
+/// The answer to an offer by one of ours, and that of an end that takes units in any order, as the text has them.
+fn answered<P: Parameter>(offer: &str, ours: &str) -> [String; 2] {
     let offered: CodecParameters<P> = offer.parse().expect(offer);
     let ours = [ours.parse().expect(ours)];
-    match offered.answer(&ours).expect("memory") {
+    let answers = [offered.answer(&ours), offered.answer_any_order(&ours)];
+    answers.map(|answer| match answer.expect("memory") {
         Some(answer) => answer.to_string(),
         None => "-".into(),
-    }
+    })
 }
 
 #[test]
@@ -26,16 +27,17 @@ fn answers_of_the_text() {
     let mut count = 0;
     for row in rows {
         let columns: Vec<&str> = row.split('|').map(str::trim).collect();
-        let [codec, offer, ours, wanted] = columns[..] else {
+        let [codec, offer, ours, wanted, ..] = columns[..] else {
             panic!("{row}");
         };
+        let any_order = columns.get(4).copied().unwrap_or(wanted);
         let answer = match codec {
             "h264" => answered::<H264Parameter>(offer, ours),
             "h265" => answered::<H265Parameter>(offer, ours),
             "h266" => answered::<H266Parameter>(offer, ours),
             _ => panic!("{row}"),
         };
-        assert_eq!(answer, wanted, "{row}");
+        assert_eq!(answer, [wanted, any_order], "{row}");
         count += 1;
     }
     assert!(count > 40, "{count} rows");
@@ -51,7 +53,7 @@ fn breaks<P: Parameter>(line: &str, wanted: Option<BrokenRule<P>>) {
 /// By RFC 6184, 8.1, and table A-1 of H.264; RFC 7798, 7.1, and tables A.8 and A.9 of H.265; RFC 9328, 7.2.
 #[test]
 fn rules_that_are_broken() {
-    use BrokenRule::{BelowLevel, HighestLevel, Level, Profile, Reordering};
+    use BrokenRule::{BelowLevel, HighestLevel, Level, OutOfOrder, Profile, Reordering};
     breaks::<H264Parameter>("", None);
     breaks(
         "profile-level-id=42e007",
@@ -100,7 +102,7 @@ fn rules_that_are_broken() {
     );
     breaks::<H264Parameter>(
         "packetization-mode=2;sprop-interleaving-depth=1;sprop-deint-buf-req=1",
-        None,
+        Some(OutOfOrder),
     );
     breaks::<H264Parameter>(
         "packetization-mode=1;sprop-init-buf-time=0",
@@ -133,4 +135,8 @@ fn rules_that_are_broken() {
     breaks::<H266Parameter>("level-id=52", Some(Level));
     breaks::<H266Parameter>("max-recv-level-id=51", Some(HighestLevel));
     breaks::<H266Parameter>("sprop-max-don-diff=1", Some(Reordering));
+    breaks::<H266Parameter>(
+        "sprop-max-don-diff=1;sprop-depack-buf-bytes=1",
+        Some(OutOfOrder),
+    );
 }

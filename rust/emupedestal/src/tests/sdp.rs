@@ -523,6 +523,105 @@ fn payload_types() {
     );
 }
 
+/// RFC 4588, 8.7, RFC 2198, 5, RFC 5109, 14, RFC 8627, 7, and Chromium's lines.
+#[test]
+fn payload_types_beside_video() {
+    for (text, wanted, payload_type, format) in [
+        ("97 rtx/90000", "97 rtx/90000", 97, RepairFormat::Rtx),
+        (" 0  RED/90000\r\n", "0 red/90000", 0, RepairFormat::Red),
+        (
+            "127 ulpfec/90000",
+            "127 ulpfec/90000",
+            127,
+            RepairFormat::Ulpfec,
+        ),
+        (
+            "110 flexfec/90000",
+            "110 flexfec/90000",
+            110,
+            RepairFormat::Flexfec,
+        ),
+        (
+            "35 flexfec-03/90000",
+            "35 flexfec-03/90000",
+            35,
+            RepairFormat::Flexfec03,
+        ),
+    ] {
+        let map: RepairMap = text.parse().expect(text);
+        assert_eq!(Some(map), RepairMap::new(payload_type, format));
+        assert_eq!((map.payload_type(), map.format()), (payload_type, format));
+        assert_eq!(map.to_string(), wanted);
+        assert_eq!(text.parse::<RtpMap>(), Err(RtpMapError::Encoding));
+    }
+    for (text, wanted) in [
+        ("", RtpMapError::PayloadType),
+        ("128 rtx/90000", RtpMapError::PayloadType),
+        ("96 H264/90000", RtpMapError::Encoding),
+        ("35 flexfec-04/90000", RtpMapError::Encoding),
+        ("97 rtx", RtpMapError::ClockRate),
+        ("63 red/48000/2", RtpMapError::ClockRate),
+    ] {
+        assert_eq!(text.parse::<RepairMap>(), Err(wanted), "{text}");
+    }
+    assert_eq!(RepairMap::new(128, RepairFormat::Rtx), None);
+}
+
+#[test]
+fn formats_of_retransmission() {
+    for (text, wanted, payload_type, rtx_time) in [
+        (
+            "apt=96;rtx-time=3000",
+            "apt=96;rtx-time=3000",
+            96,
+            Some(3000),
+        ),
+        ("apt=127", "apt=127", 127, None),
+        (
+            " RTX-Time=200; x=1; APT = 0 ",
+            "apt=0;rtx-time=200",
+            0,
+            Some(200),
+        ),
+    ] {
+        let format: RtxFormat = text.parse().expect(text);
+        assert_eq!(Some(format), RtxFormat::new(payload_type, rtx_time));
+        assert_eq!(
+            (format.payload_type(), format.rtx_time()),
+            (payload_type, rtx_time)
+        );
+        assert_eq!(format.to_string(), wanted);
+    }
+    let refused = |place, fault| RtxError::Parameters(ParametersError::Refused { place, fault });
+    for (text, wanted, said) in [
+        (
+            "rtx-time=3000",
+            RtxError::NoPayloadType,
+            "no associated payload type",
+        ),
+        ("", RtxError::NoPayloadType, "no associated payload type"),
+        (
+            "rtx-time=1;apt=128",
+            refused(1, Fault::OutOfRange),
+            "parameter 1 is refused",
+        ),
+        (
+            "apt=H264",
+            refused(0, Fault::NotANumber),
+            "parameter 0 is refused",
+        ),
+        (
+            "apt=96;apt=96",
+            refused(1, Fault::Twice),
+            "parameter 1 is refused",
+        ),
+    ] {
+        assert_eq!(text.parse::<RtxFormat>(), Err(wanted), "{text}");
+        assert!(wanted.to_string().starts_with(said), "{wanted}");
+    }
+    assert_eq!(RtxFormat::new(128, None), None);
+}
+
 #[test]
 fn plain_data() {
     fn check<T: Clone + PartialEq + Eq + std::hash::Hash + Debug + Send + Sync>() {}
@@ -530,11 +629,14 @@ fn plain_data() {
     check::<H265Parameters>();
     check::<H266Parameters>();
     check::<RtpMap>();
+    check::<RepairMap>();
+    check::<RtxFormat>();
     fn error<T: std::error::Error + Send + Sync + 'static + std::hash::Hash + Copy>() {}
     error::<ParametersError>();
     error::<UnitsError>();
     error::<SetError>();
     error::<RtpMapError>();
+    error::<RtxError>();
     error::<Fault>();
     let [one, same, other]: [H264Parameters; 3] =
         ["a=1;max-fs=2", " Max-FS=2 ;a=1;", "max-fs=2;b=1"].map(|it| it.parse().unwrap());

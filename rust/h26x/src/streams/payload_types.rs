@@ -1,6 +1,8 @@
 //! What a session gives payload types to beside a codec: retransmissions (RTX, RFC 4588), redundant payloads (RED, RFC
 //! 2198) and forward error correction (FEC, RFC 5109); by its description, or by options.
 
+use emupedestal::sdp::RtxFormat;
+
 const RID: &str = "urn:ietf:params:rtp-hdrext:sdes:rtp-stream-id";
 const REPAIRED_RID: &str = "urn:ietf:params:rtp-hdrext:sdes:repaired-rtp-stream-id";
 
@@ -53,11 +55,9 @@ impl PayloadTypes {
     }
 
     fn read_format(&mut self, payload_type: &str, format: &str) {
-        let parameters = format.split(';').filter_map(|it| it.split_once('='));
-        let mut of_rtx = parameters.filter(|it| it.0.trim().eq_ignore_ascii_case("apt"));
-        let original = of_rtx.next().and_then(|it| it.1.trim().parse().ok());
-        if let (Ok(payload_type), Some(original)) = (payload_type.parse(), original) {
-            self.rtx.push((payload_type, original));
+        if let (Ok(payload_type), Ok(format)) = (payload_type.parse(), format.parse::<RtxFormat>())
+        {
+            self.rtx.push((payload_type, format.payload_type()));
         }
     }
 
@@ -142,6 +142,7 @@ mod tests {
             "a=rtpmap:97 rtx/90000",
             "a=fmtp:97 apt=96;rtx-time=3000",
             "a=rtpmap:98 RED/90000",
+            "a=fmtp:98 apt=128",
             "a=rtpmap:99 ulpfec/90000",
             "a=ssrc-group:FID 11 22",
             "a=extmap:4/sendonly urn:ietf:params:rtp-hdrext:sdes:rtp-stream-id",

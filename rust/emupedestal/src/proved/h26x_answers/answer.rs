@@ -62,6 +62,19 @@ pub trait CodecRules: CodecParameter {
 
     /// The first rule of its RFC that a format of one's own breaks, if it breaks one.
     fn fault(own: &CodecParameters<Self>) -> Option<FormatFault>;
+
+    /// Whether a format's units may be sent in another order than decoded: `packetization-mode` 2 of
+    /// H.264 (RFC 6184, section 6.4), and `sprop-max-don-diff` above 0 of H.265 and H.266 (RFC 7798,
+    /// section 7.1; RFC 9328, section 7.2).
+    fn reorders(it: &CodecParameters<Self>) -> bool;
+}
+
+/// What an answerer can do that no format says, and this payload layer can't.
+#[derive(Debug, Clone, Copy, PartialEq, Eq, Default)]
+pub struct AnswerConfig {
+    /// Whether it takes formats whose units may be sent in another order than decoded: it reads STAP-B,
+    /// MTAP and FU-B of H.264, and puts units in order by their decoding order numbers.
+    pub any_order: bool,
 }
 
 /// What two formats of one configuration agree on.
@@ -294,28 +307,46 @@ fn answer_by<P: CodecRules>(
     }
 }
 
-/// The answer to an offered format of a profile and a level that a table has, by one of ours that
-/// breaks no rule of its RFC.
+/// The first rule that a format of one's own breaks, if it breaks one: of its RFC, or that its units
+/// are sent in the order in which they're decoded, unless the caller takes any. Such a format gives no
+/// answer.
+pub fn own_fault<P: CodecRules>(
+    config: AnswerConfig,
+    own: &CodecParameters<P>,
+) -> Option<FormatFault> {
+    match P::fault(own) {
+        Some(fault) => Some(fault),
+        None if config.any_order || !P::reorders(own) => None,
+        None => Some(FormatFault::OutOfOrder),
+    }
+}
+
+/// The answer to an offered format of a profile and a level that a table has, in an order of units that
+/// the caller takes, by one of ours that breaks no rule.
 fn allowed_answer<P: CodecRules>(
+    config: AnswerConfig,
     offered: &CodecParameters<P>,
     own: &CodecParameters<P>,
 ) -> Result<Option<CodecParameters<P>>, AllocError> {
-    if !P::is_known(offered) || P::fault(own).is_some() {
+    let is_ordered = config.any_order || !P::reorders(offered);
+    if !P::is_known(offered) || !is_ordered || own_fault(config, own).is_some() {
         return Ok(None);
     }
     answer_by(offered, own)
 }
 
-/// The answer to the parameters of an offered format, by the first of ours that gives one; `None` where
-/// none does, and where the standard has no such profile or level. One of ours that breaks a rule of
-/// its RFC gives none (`fault` of [`CodecRules`] tells it). It is for both directions, and for unicast
-/// (RFC 6184, section 8.2.2; RFC 7798, section 7.2.2; RFC 9328, section 7.3.2).
+/// The answer to the parameters of an offered format, by the first of ours that gives one; `None`
+/// where none does, and where the standard has no such profile or level, or units may be sent in
+/// another order than the caller takes. One of ours that breaks a rule gives none ([`own_fault`] tells
+/// it). It is for both directions, and for unicast (RFC 6184, section 8.2.2; RFC 7798, section 7.2.2;
+/// RFC 9328, section 7.3.2).
 pub(crate) fn answer_format<P: CodecRules>(
+    config: AnswerConfig,
     offered: &CodecParameters<P>,
     ours: &[CodecParameters<P>],
 ) -> Result<Option<CodecParameters<P>>, AllocError> {
     for own in ours {
-        if let Some(answer) = allowed_answer(offered, own)? {
+        if let Some(answer) = allowed_answer(config, offered, own)? {
             return Ok(Some(answer));
         }
     }
@@ -326,11 +357,12 @@ pub(crate) fn answer_format<P: CodecRules>(
 /// answers, with its payload type; `None` where no two have a configuration in common (RFC 3264,
 /// section 6.1). To take more than one format, ask each for its answer.
 pub(crate) fn answer_to<P: CodecRules>(
+    config: AnswerConfig,
     offer: &[Format<P>],
     ours: &[CodecParameters<P>],
 ) -> Result<Option<Format<P>>, AllocError> {
     for format in offer {
-        if let Some(parameters) = answer_format(&format.parameters, ours)? {
+        if let Some(parameters) = answer_format(config, &format.parameters, ours)? {
             return Ok(Some(Format {
                 payload_type: format.payload_type,
                 parameters,

@@ -4,8 +4,8 @@
 
 use crate::proved::h26x_sdp::{CodecParameter, CodecParameters};
 
-/// A rule of its RFC that a format breaks (RFC 6184, section 8.1; RFC 7798, section 7.1; RFC 9328,
-/// section 7.2).
+/// A rule that a format breaks: of its RFC (RFC 6184, section 8.1; RFC 7798, section 7.1; RFC 9328,
+/// section 7.2), or, the last, of this payload layer.
 #[derive(Debug, Clone, Copy, PartialEq, Eq)]
 pub enum FormatFault {
     /// The standard has no such profile.
@@ -18,6 +18,8 @@ pub enum FormatFault {
     BelowLevel { place: usize },
     /// What is said of packets out of order stands where there are none, or is absent where there are.
     Reordering,
+    /// Units are sent in another order than decoded, and the caller doesn't say that it takes any.
+    OutOfOrder,
 }
 
 /// What is wrong with a limit: it is below what the level asks for.

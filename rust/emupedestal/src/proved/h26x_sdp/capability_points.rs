@@ -210,9 +210,9 @@ pub fn read_capability_points(text: &[u8]) -> Result<Vec<CapabilityPoint>, Capab
     }
 }
 
-/// The text of a limit, if it's given.
-fn limit_text(limit: Option<u64>) -> Result<Option<Vec<u8>>, AllocError> {
-    match limit {
+/// The text of a number, if it's given.
+pub(crate) fn number_text(number: Option<u64>) -> Result<Option<Vec<u8>>, AllocError> {
+    match number {
         Some(number) => Ok(Some(
             crate::support::try_format(format_args!("{number}"))?.into_bytes(),
         )),
@@ -223,11 +223,11 @@ fn limit_text(limit: Option<u64>) -> Result<Option<Vec<u8>>, AllocError> {
 /// The text of a point's limits.
 fn limits_text(point: &CapabilityPoint) -> Result<Vec<u8>, AllocError> {
     let mut values = Vec::try_with_room(5)?;
-    values.try_push(limit_text(point.tier_flag)?)?;
-    values.try_push(limit_text(point.level_id)?)?;
-    values.try_push(limit_text(point.max_lsr)?)?;
-    values.try_push(limit_text(point.max_lps)?)?;
-    values.try_push(limit_text(point.max_br)?)?;
+    values.try_push(number_text(point.tier_flag)?)?;
+    values.try_push(number_text(point.level_id)?)?;
+    values.try_push(number_text(point.max_lsr)?)?;
+    values.try_push(number_text(point.max_lps)?)?;
+    values.try_push(number_text(point.max_br)?)?;
     let others = Vec::new();
     parameters::write(&ROWS, &FormatParameters { values, others })
 }

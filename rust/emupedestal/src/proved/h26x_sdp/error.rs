@@ -125,3 +125,29 @@ impl From<AllocError> for CapabilityPointsError {
         CapabilityPointsError::OutOfMemory
     }
 }
+
+/// Why a text is no format of retransmission. A refused call changes nothing.
+#[derive(Debug, Clone, Copy, PartialEq, Eq, Hash)]
+#[non_exhaustive]
+pub enum RtxError {
+    /// The parameters have this fault.
+    Parameters(ParametersError),
+
+    /// There is no `apt`, which RFC 4588, section 8.3, asks for.
+    NoPayloadType,
+
+    /// The allocator had no memory.
+    OutOfMemory,
+}
+
+impl core::fmt::Display for RtxError {
+    fn fmt(&self, f: &mut core::fmt::Formatter<'_>) -> core::fmt::Result {
+        match self {
+            RtxError::Parameters(of_0) => write!(f, "{of_0}"),
+            RtxError::NoPayloadType => write!(f, "no associated payload type"),
+            RtxError::OutOfMemory => write!(f, "out of memory"),
+        }
+    }
+}
+
+impl core::error::Error for RtxError {}

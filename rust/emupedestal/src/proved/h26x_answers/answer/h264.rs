@@ -310,4 +310,8 @@ impl CodecRules for H264Parameter {
     fn fault(own: &H264Parameters) -> Option<FormatFault> {
         own_h264::fault(own)
     }
+
+    fn reorders(it: &H264Parameters) -> bool {
+        is_interleaved(it)
+    }
 }

@@ -2,7 +2,7 @@
 
 //! Answers to offers of H.265 (RFC 7798, section 7.2.2).
 
-use crate::proved::h26x_answers::answer::by_level::{LevelParameters, terms_by_level};
+use crate::proved::h26x_answers::answer::by_level::{LevelParameters, is_positive, terms_by_level};
 use crate::proved::h26x_answers::answer::{CodecRules, Role, Terms, own_h265, same_number};
 use crate::proved::h26x_answers::fault::FormatFault;
 use crate::proved::h26x_sdp::{H265Parameter, H265Parameters};
@@ -108,5 +108,9 @@ impl CodecRules for H265Parameter {
 
     fn fault(own: &H265Parameters) -> Option<FormatFault> {
         own_h265::fault(own)
+    }
+
+    fn reorders(it: &H265Parameters) -> bool {
+        is_positive(it.number_or_default(H265Parameter::SpropMaxDonDiff))
     }
 }

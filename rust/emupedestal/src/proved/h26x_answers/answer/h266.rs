@@ -2,7 +2,7 @@
 
 //! Answers to offers of H.266 (RFC 9328, section 7.3.2).
 
-use crate::proved::h26x_answers::answer::by_level::{LevelParameters, terms_by_level};
+use crate::proved::h26x_answers::answer::by_level::{LevelParameters, is_positive, terms_by_level};
 use crate::proved::h26x_answers::answer::{
     CodecRules, Role, Terms, own_h266, same_if_given, same_number,
 };
@@ -100,5 +100,9 @@ impl CodecRules for H266Parameter {
 
     fn fault(own: &H266Parameters) -> Option<FormatFault> {
         own_h266::fault(own)
+    }
+
+    fn reorders(it: &H266Parameters) -> bool {
+        is_positive(it.number_or_default(H266Parameter::SpropMaxDonDiff))
     }
 }

@@ -1,6 +1,6 @@
 //! Offers as ends make them and those of the RFCs, and what is answered.
 
-use crate::proved::h26x_answers::{CodecRules, Format, answer_to};
+use crate::proved::h26x_answers::{AnswerConfig, CodecRules, Format, answer_to};
 use crate::proved::h26x_sdp::{CodecParameters, H264Parameter, H265Parameter, H266Parameter};
 
 /// An offer with its payload types, what we take, and the answer in the order of the table.
@@ -372,6 +372,7 @@ const H266: [Exchange; 6] = [
 
 /// Each offer has its answer.
 fn all_answered<P: CodecRules>(exchanges: &[Exchange]) {
+    let any_order = AnswerConfig { any_order: true };
     for exchange in exchanges {
         let mut offer = Vec::new();
         for (payload_type, line) in exchange.offer {
@@ -387,7 +388,7 @@ fn all_answered<P: CodecRules>(exchanges: &[Exchange]) {
             ours.push(CodecParameters::<P>::read(line.as_bytes()).unwrap());
         }
         match (
-            answer_to(offer.as_slice(), ours.as_slice()).unwrap(),
+            answer_to(any_order, offer.as_slice(), ours.as_slice()).unwrap(),
             exchange.answer,
         ) {
             (None, want) => assert!(want.is_none()),
