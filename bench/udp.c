@@ -6,7 +6,6 @@
 #define _GNU_SOURCE
 #include "datagrams.h"
 #include "h26x.h"
-#include "rtp.h"
 #include <stdio.h>
 #include <stdlib.h>
 #include <string.h>
@@ -25,7 +24,7 @@ struct frame {
 /* What sends, with the buffer that packets are made in. */
 struct server {
     h26x_packetizer packetizer;
-    struct rtp header;
+    h26x_rtp_header header;
     struct sender sender;
     bool is_silent; /* packets are made and get headers, and aren't sent */
     uint8_t at[ROOM];
@@ -41,7 +40,8 @@ static void stop(const char *what)
 static void write_header(struct server *s, uint8_t *to, bool is_last)
 {
     s->header.marker = is_last;
-    rtp_write(to, &s->header);
+    if (h26x_rtp_write_before(&s->header, NULL, 0, NULL, 0, false, RTP_HEADER, to, RTP_HEADER, NULL) != H26X_OK)
+        stop("h26x_rtp_write_before");
     s->header.sequence++;
 }
 
@@ -198,7 +198,7 @@ static void make_frame(struct frame *f, const char *name, uint8_t header, size_t
 
 int main(void)
 {
-    static struct server s = {.header = {.payload_type = 96, .source = 0x68323658}};
+    static struct server s = {.header = {.payload_type = 96, .ssrc = 0x68323658}};
     static struct frame frames[2];
     const int least = 1; /* the kernel makes it what one small datagram takes */
     int receives;
