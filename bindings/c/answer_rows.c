@@ -34,19 +34,29 @@ static void is_written(struct tally *t, const h26x_sdp *made, const char *wanted
     expect_at(t, is_one, wanted, __FILE__, __LINE__);
 }
 
-static void walk(struct tally *t, char *row)
+typedef uint32_t answering(const h26x_sdp *offered, const h26x_sdp *ours, h26x_sdp *made);
+
+/* What a call answers. */
+static void is_answered(struct tally *t, answering *by, const h26x_sdp *offered, const h26x_sdp *ours,
+                        const char *wanted)
 {
-    const char *codec = next_column(&row), *offer = next_column(&row), *own = next_column(&row),
-               *wanted = next_column(&row);
-    const uint32_t number = strcmp(codec, "h264") == 0 ? H26X_H264 : strcmp(codec, "h265") == 0 ? H26X_H265 : H26X_H266;
-    const h26x_sdp offered = format_of(t, number, offer), ours = format_of(t, number, own);
     h26x_sdp answer = {NULL};
-    const uint32_t code = h26x_sdp_answer(&offered, &ours, &answer);
+    const uint32_t code = by(offered, ours, &answer);
     const bool has_answer = strcmp(wanted, "-") != 0;
-    expect_at(t, code == (has_answer ? H26X_OK : H26X_SDP_NO_ANSWER), offer, __FILE__, __LINE__);
+    expect_at(t, code == (has_answer ? H26X_OK : H26X_SDP_NO_ANSWER), wanted, __FILE__, __LINE__);
     if (has_answer)
         is_written(t, &answer, wanted);
     h26x_sdp_free(answer);
+}
+
+static void walk(struct tally *t, char *row)
+{
+    const char *codec = next_column(&row), *offer = next_column(&row), *own = next_column(&row),
+               *wanted = next_column(&row), *any_order = *row != 0 ? next_column(&row) : wanted;
+    const uint32_t number = strcmp(codec, "h264") == 0 ? H26X_H264 : strcmp(codec, "h265") == 0 ? H26X_H265 : H26X_H266;
+    const h26x_sdp offered = format_of(t, number, offer), ours = format_of(t, number, own);
+    is_answered(t, h26x_sdp_answer, &offered, &ours, wanted);
+    is_answered(t, h26x_sdp_answer_any_order, &offered, &ours, any_order);
     h26x_sdp_free(offered);
     h26x_sdp_free(ours);
 }

@@ -151,6 +151,7 @@ static void *run(void *at)
         check_sdp(&work->tally);
         check_answer_rows(&work->tally);
         check_unit_rows(&work->tally);
+        check_datagrams(&work->tally);
         check_optional(&work->tally);
     }
     work->pass(&work->tally);

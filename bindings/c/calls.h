@@ -26,7 +26,8 @@ const char *behind_bar(const char *hex);
 
 /* The checks of every call: of packetizers, of depacketizers and what they show, of receivers of
  * packets with their sequence numbers and of access units, of those without a handle, on packets, on
- * payloads and on profiles, of format parameters of SDP, and what may be left out of all. */
+ * payloads and on profiles, on what stands round payloads, of format parameters of SDP, and what may be
+ * left out of all. */
 void check_sending(struct tally *t);
 void check_receiving(struct tally *t);
 void check_sequenced(struct tally *t);
@@ -40,6 +41,7 @@ void check_profiles(struct tally *t);
 void check_sdp(struct tally *t);
 void check_answer_rows(struct tally *t);
 void check_unit_rows(struct tally *t);
+void check_datagrams(struct tally *t);
 void check_optional(struct tally *t);
 
 /* Compares the packets that a packetizer holds, so many, which `packets` names with '|' between

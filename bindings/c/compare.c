@@ -30,6 +30,10 @@
     X(sdp_read) X(sdp_of_payload) X(fits_single_units) X(rtpmap_read) X(rtpmap_write)              \
     X(is_partition_head) X(is_partition_tail) X(detect_keyframe) X(detect_h264_nalu) X(next_unit)  \
     X(set_lowest_header) X(begins_keyframe)                                                        \
+    X(is_rtcp) X(rtp_read) X(rtp_original) X(rtp_write) X(rtp_write_before) X(rtx_write)           \
+    X(red_primary) X(pli_write) X(pli_read) X(fir_write) X(fir_read) X(receiver_report_write)      \
+    X(receiver_report_read) X(nack_write) X(nack_read) X(rtcp_next) X(rtp_statistics_receive)      \
+    X(rtp_statistics_recover) X(rtp_statistics_report)                                             \
     X(unit_is_plain) X(out_size_hint) X(h264_profile_level) X(h265_is_known) X(h266_is_known)      \
     X(packetizer_clone) X(packetizer_set_numbers) X(packetizer_set_max_size)                       \
     X(packetizer_set_lowest_header) X(packetize)                                                   \
@@ -108,7 +112,7 @@ struct held {
     void *at[2];
 };
 
-enum { HELD = 8, ENDS = 512, MISSING = 64, POINTS = 3, NUMBERS = 39 };
+enum { HELD = 8, ENDS = 512, MISSING = 64, POINTS = 3, NUMBERS = 43 };
 
 static struct held held[HELD];
 
@@ -170,6 +174,20 @@ static void draw_input(enum call call, uint32_t codec)
         break;
     case CALL_rtpmap_read:
         draw_rtpmap(&input);
+        break;
+    case CALL_is_rtcp:
+    case CALL_rtp_read:
+    case CALL_rtp_original:
+    case CALL_rtx_write:
+    case CALL_pli_read:
+    case CALL_fir_read:
+    case CALL_receiver_report_read:
+    case CALL_nack_read:
+    case CALL_rtcp_next:
+        draw_datagram(&input);
+        break;
+    case CALL_red_primary:
+        draw_red(&input);
         break;
     case CALL_sdp_value:
     case CALL_sdp_number:
@@ -285,6 +303,9 @@ struct outputs {
     uint64_t value;
     h26x_constraints said;
     h26x_capability_point points[POINTS];
+    h26x_rtp_packet packet;
+    h26x_report report;
+    uint32_t media;
 };
 
 #define WANTED(bit, output) ((d->wants >> (bit) & 1) != 0 ? (output) : NULL)
@@ -491,6 +512,103 @@ static uint64_t set_lowest_header(const struct library *l, const struct drawn *d
     return d->len;
 }
 
+/* What each library counted of a source. */
+static h26x_rtp_statistics counted[2];
+
+/* Counts a packet whose number is mostly near the highest. Now and then there is nothing yet, or as much as can be. */
+static uint64_t counts(int s, const struct drawn *d)
+{
+    h26x_rtp_statistics *it = &counted[s];
+    if (d->x % 64 == 0)
+        *it = (h26x_rtp_statistics){0};
+    if (d->x % 64 == 1)
+        it->expected = it->received = it->bytes = it->recovered = it->jitter = UINT64_MAX - d->y % 4;
+    const uint16_t near = (uint16_t)(it->highest + d->y % 5), edge = (uint16_t)(it->highest + (d->y % 2 ? 3001 : -101) - d->y % 4);
+    const uint16_t sequence = d->z % 8 ? near : d->z % 64 ? edge : it->has_jumped ? it->after_jump : d->sequence;
+    return libraries[s].rtp_statistics_receive(it, d->y, sequence, d->z, d->len);
+}
+
+/* Bytes cut to whole words, mostly. */
+static size_t words(size_t len, uint32_t drawn)
+{
+    return drawn % 5 == 0 ? len : len & ~(size_t)3;
+}
+
+static h26x_report report_of(const struct drawn *d)
+{
+    return (h26x_report){d->x, (int32_t)d->y, d->z, d->x ^ d->y, d->y ^ d->z, d->x ^ d->z, (uint8_t)d->x};
+}
+
+/* Asks for numbers, each of which is mostly near the one before. */
+static uint64_t asks(int s, const struct drawn *d, uint8_t *to, struct outputs *o)
+{
+    uint16_t numbers[MISSING];
+    const size_t count = d->extension_len < MISSING ? d->extension_len : MISSING;
+    uint16_t number = d->sequence;
+    for (size_t i = 0; i < count; i++)
+        numbers[i] = number += d->z % 5 == 0 ? extension.at[i] : extension.at[i] % 20;
+    return libraries[s].nack_write(d->x, d->y, d->extension != NULL ? numbers : NULL, count, to, d->z % 100,
+                                   WANTED(0, &o->count), WANTED(1, &o->size));
+}
+
+static uint64_t wraps(int s, const struct drawn *d, struct answer *a, struct outputs *o)
+{
+    /* (so many of the first of these are padding) */
+    static const uint8_t padding[] = {1, 2, 3, 4};
+    const struct library *l = &libraries[s];
+    const h26x_rtp_header header = {d->x, d->y, d->sequence, (uint16_t)d->z, (uint8_t)(d->x % 9 ? d->y % 128 : d->y),
+                                    d->marker, d->avc};
+    const h26x_report report = report_of(d);
+    const size_t csrcs_len = words(d->extension_len, d->x), extension_len = words(d->len, d->y);
+    uint8_t *to = d->has_to ? a->to : NULL;
+    size_t *len = WANTED(0, &o->count);
+    switch (d->call) {
+    case CALL_is_rtcp:
+        return l->is_rtcp(d->bytes, d->len);
+    case CALL_rtp_read:
+        return l->rtp_read(d->bytes, d->len, WANTED(6, &o->packet));
+    case CALL_rtp_original:
+        return l->rtp_original(d->bytes, d->len, d->y % 128, d->z, WANTED(6, &o->packet));
+    case CALL_rtp_write:
+        return l->rtp_write(&header, d->extension, csrcs_len, d->bytes, extension_len, d->bytes, d->len,
+                            padding + (d->z % 7 == 0), d->z % 4, to, d->room, len);
+    case CALL_rtp_write_before:
+        return l->rtp_write_before(&header, d->extension, csrcs_len, d->bytes, extension_len, d->numbers, d->z % 8000, to,
+                                   d->room, len);
+    case CALL_rtx_write:
+        return l->rtx_write(d->bytes, d->len, (uint8_t)(d->x % 9 ? d->y % 128 : d->y), d->sequence, d->z, to, d->room, len);
+    case CALL_red_primary:
+        return l->red_primary(d->bytes, d->len, WANTED(1, &o->profile), len);
+    case CALL_pli_write:
+        return l->pli_write(d->x, d->y, to, d->z % 40, len);
+    case CALL_pli_read:
+        return l->pli_read(d->bytes, d->len, WANTED(4, &o->number), WANTED(7, &o->media));
+    case CALL_fir_write:
+        return l->fir_write(d->x, d->y, (uint8_t)d->z, to, d->z % 40, len);
+    case CALL_fir_read:
+        return l->fir_read(d->bytes, d->len, WANTED(4, &o->number), WANTED(7, &o->media), WANTED(1, &o->profile));
+    case CALL_receiver_report_write:
+        return l->receiver_report_write(d->x, &report, to, d->z % 40, len);
+    case CALL_receiver_report_read:
+        return l->receiver_report_read(d->bytes, d->len, WANTED(4, &o->number), WANTED(7, &o->report));
+    case CALL_nack_write:
+        return asks(s, d, to, o);
+    case CALL_nack_read:
+        return l->nack_read(d->bytes, d->len, WANTED(4, &o->number), WANTED(7, &o->media),
+                            d->has_to ? a->missing : NULL, d->x % 3 ? d->y % MISSING : 0, WANTED(0, &o->count));
+    case CALL_rtcp_next:
+        return l->rtcp_next(d->bytes, d->len, d->x % 3 == 0 ? 0 : d->x % 3 == 1 ? 12 : d->y % (d->len + 2), len);
+    case CALL_rtp_statistics_receive:
+        return counts(s, d);
+    case CALL_rtp_statistics_recover:
+        l->rtp_statistics_recover(&counted[s]);
+        return 0;
+    default:
+        l->rtp_statistics_report(&counted[s], d->x, d->y, d->z, WANTED(7, &o->report));
+        return 0;
+    }
+}
+
 static uint64_t looks(int s, const struct drawn *d, struct answer *a, struct outputs *o)
 {
     const struct library *l = &libraries[s];
@@ -601,16 +719,48 @@ static enum kind kind_made(enum call call)
     }
 }
 
+/* Numbers as one. */
+static uint64_t fold(const uint64_t *parts, size_t count)
+{
+    uint64_t all = 0;
+    for (size_t i = 0; i < count; i++)
+        all = (all ^ parts[i]) * 1099511628211u;
+    return all;
+}
+#define FOLD(parts) fold(parts, sizeof (parts) / sizeof (parts)[0])
+
 /* A capability point as one number. */
 static uint64_t folded(const h26x_capability_point *it)
 {
     const uint64_t parts[] = {it->spatial_segmentation, it->tier_flag, it->level_id, it->max_lsr, it->max_lps,
                               it->max_br, it->tool, it->has_tier_flag, it->has_level_id, it->has_max_lsr,
                               it->has_max_lps, it->has_max_br};
-    uint64_t all = 0;
-    for (size_t i = 0; i < sizeof parts / sizeof parts[0]; i++)
-        all = (all ^ parts[i]) * 1099511628211u;
-    return all;
+    return FOLD(parts);
+}
+
+/* So an RTP packet, a report, and what is counted. */
+static uint64_t folded_packet(const h26x_rtp_packet *it)
+{
+    const h26x_rtp_header *header = &it->header;
+    const uint64_t parts[] = {header->timestamp, header->ssrc, header->sequence, header->profile, header->payload_type,
+                              header->marker, header->has_extension, it->csrcs_len, it->extension_len, it->payload,
+                              it->payload_len, it->padding_len};
+    return FOLD(parts);
+}
+
+static uint64_t folded_report(const h26x_report *it)
+{
+    const uint64_t parts[] = {it->ssrc, (uint32_t)it->lost, it->highest, it->jitter, it->last_sender_report, it->delay,
+                              it->fraction_lost};
+    return FOLD(parts);
+}
+
+static uint64_t folded_statistics(const h26x_rtp_statistics *it)
+{
+    const uint64_t parts[] = {it->expected, it->received, it->bytes, it->recovered, it->jitter, it->expected_before,
+                              it->received_before, it->transit, it->base, it->highest, it->after_jump, it->has_transit,
+                              it->has_jumped};
+    return FOLD(parts);
 }
 
 /* Gives one library a call; the pointer of a handle that it made. */
@@ -618,19 +768,21 @@ static void *give(int s, const struct drawn *d)
 {
     struct answer *a = &answers[s];
     struct outputs o = {11, 12, d->wants >> 8 & 1 ? d->x % 3 : 0, 13, 14, {15, 16}, {17, 18, 19, 20}, 21, 22,
-                        {.len = 23}, {.taken = 24}, 25, {.flags = 26}, {{.max_br = 27}}};
+                        {.len = 23}, {.taken = 24}, 25, {.flags = 26}, {{.max_br = 27}}, {.payload = 28}, {.ssrc = 29}, 30};
     void *made = NULL;
     *a = (struct answer){.result = 0};
     memset(a->to, 0xee, sizeof a->to);
     memset(a->ends, 0xff, sizeof a->ends);
     if (d->call == CALL_codec_name || d->call == CALL_strerror) {
-        const char *text = d->call == CALL_strerror ? libraries[s].strerror(d->x % 56)
+        const char *text = d->call == CALL_strerror ? libraries[s].strerror(d->x % 64)
                                                     : libraries[s].codec_name(d->codec);
         snprintf(a->text, sizeof a->text, "%s", text != NULL ? text : "none");
     } else if (kind_made(d->call) != NONE)
         made = makes(s, d, a, &o);
     else if (d->call >= CALL_sdp_answer)
         a->result = describes(s, d, a, &o);
+    else if (d->call >= CALL_is_rtcp && d->call <= CALL_rtp_statistics_report)
+        a->result = wraps(s, d, a, &o);
     else if (d->call < CALL_packetizer_clone)
         a->result = looks(s, d, a, &o);
     else if (d->call < CALL_depacketizer_clone)
@@ -651,7 +803,8 @@ static void *give(int s, const struct drawn *d)
         counts->units_given_up, counts->texts_given_up, counts->no_unit, counts->still, counts->unbelieved,
         o.said.flags, o.said.len,
         (uint64_t)o.said.frame_only << 2 | (uint64_t)o.said.multilayer << 1 | o.said.general, folded(&o.points[0]),
-        folded(&o.points[1]), folded(&o.points[2])};
+        folded(&o.points[1]), folded(&o.points[2]), folded_packet(&o.packet), folded_report(&o.report), o.media,
+        folded_statistics(&counted[s])};
     memcpy(a->numbers, numbers, sizeof numbers);
     return made;
 }

@@ -184,6 +184,97 @@ void draw_packet(struct bytes *it, uint32_t codec)
     draw_unit(it, codec);
 }
 
+/* ---- Datagrams ---- */
+
+static void add(struct bytes *it, size_t count)
+{
+    for (; count > 0; count--)
+        it->at[it->len++] = byte();
+}
+
+/* A redundant payload (RFC 2198, 3): headers of blocks, that of the primary one, and their bytes. */
+static void add_red(struct bytes *it)
+{
+    size_t sizes = 0;
+    for (uint32_t blocks = below(3); blocks > 0; blocks--) {
+        const uint32_t size = one_in(8) ? below(1024) : below(6);
+        const uint8_t header[] = {0x80 | below(128), byte(), (byte() & 0xfc) | (uint8_t)(size >> 8), size & 0xff};
+        memcpy(it->at + it->len, header, 4);
+        it->len += 4, sizes += size;
+    }
+    it->at[it->len++] = below(128);
+    add(it, one_in(8) ? below(8) : sizes + below(8));
+}
+
+/* A packet of RTP (RFC 3550, 5.1): CSRCs, an extension, a redundant payload or another, and padding. */
+static void add_rtp(struct bytes *it)
+{
+    const uint32_t csrcs = one_in(3) ? below(16) : 0, words = one_in(8) ? below(70) : below(4), padding = below(6);
+    const bool is_extended = one_in(3), is_padded = one_in(3);
+    it->at[it->len++] = (uint8_t)(0x80 | is_padded << 5 | is_extended << 4 | csrcs);
+    add(it, 11 + 4 * csrcs);
+    if (is_extended) {
+        add(it, 3);
+        it->at[it->len - 1] = 0;
+        it->at[it->len++] = (uint8_t)words;
+        add(it, 4 * words);
+    }
+    if (one_in(4))
+        add_red(it);
+    else
+        add(it, below(30));
+    if (is_padded) {
+        add(it, padding > 1 ? padding - 1 : 0);
+        it->at[it->len++] = (uint8_t)padding;
+    }
+}
+
+/* A packet of RTCP: a PLI, a FIR, a receiver report, or a NACK of few pairs (RFC 4585, 6.3.1; RFC 5104, 4.3.1; RFC 3550,
+ * 6.4.2; RFC 4585, 6.2.1). */
+static void add_rtcp(struct bytes *it)
+{
+    const uint8_t heads[][4] = {
+        {0x81, 206, 0, 2}, {0x84, 206, 0, 4}, {0x81, 201, 0, 7}, {0x81, 205, 0, (uint8_t)(2 + below(5))}};
+    const uint32_t kind = below(4);
+    memcpy(it->at + it->len, heads[kind], 4);
+    it->len += 4;
+    add(it, 4 * (size_t)heads[kind][3]);
+}
+
+/* One of them, or a compound of some (RFC 3550, 6.1). */
+static void add_rtcps(struct bytes *it)
+{
+    do
+        add_rtcp(it);
+    while (one_in(3) && it->len < 400);
+}
+
+/* Turns a bit of the front, and cuts it, now and then. */
+static void spoil(struct bytes *it)
+{
+    if (one_in(4) && it->len > 0)
+        it->at[below(it->len < 24 ? (uint32_t)it->len : 24)] ^= (uint8_t)(1 << below(8));
+    if (one_in(8))
+        it->len = below((uint32_t)it->len + 1);
+}
+
+void draw_datagram(struct bytes *it)
+{
+    it->len = 0;
+    if (one_in(3))
+        add_rtcps(it);
+    else
+        add_rtp(it);
+    spoil(it);
+}
+
+void draw_red(struct bytes *it)
+{
+    it->len = 0;
+    add_red(it);
+    spoil(it);
+}
+
 /* ---- Texts of SDP ---- */
 
 static void add_text(struct bytes *it, const char *text)

@@ -32,6 +32,10 @@ void draw_packet(struct bytes *it, uint32_t codec);
 /* The first fragment of a unit, or a later one. */
 void draw_fragment(struct bytes *it, uint32_t codec);
 
+/* A datagram of RTP or RTCP near the rules: its parts as they are, cut, or with a bit turned; and a redundant payload. */
+void draw_datagram(struct bytes *it);
+void draw_red(struct bytes *it);
+
 /* What stands in an a=fmtp line, many of whose parameters are the codec's; the name of one; and what stands in an a=rtpmap
  * line. */
 void draw_format(struct bytes *it, uint32_t codec);

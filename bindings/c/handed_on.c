@@ -65,26 +65,31 @@ static h26x_receiver receiver;
 static h26x_access_units access_units;
 static const h26x_nack_times nack_times = {10, 60, 5};
 static h26x_sdp format, made_format;
+static const h26x_rtp_header header = {.sequence = 1};
+static const h26x_report report_given = {.ssrc = 1};
+static h26x_rtp_statistics statistics;
 
 /* Where there is something, what there is. */
 static struct {
-    uint8_t in[ROOM], extension[ROOM], to[ROOM], to_too[ROOM];
+    uint8_t in[ROOM], extension[ROOM], payload[ROOM], padding[ROOM], to[ROOM], to_too[ROOM];
     size_t ends[ROOM], first, second;
     uint16_t numbers[ROOM];
     h26x_access_unit unit;
     h26x_access_units_counts counts;
     uint8_t small, small_too;
     uint16_t missing;
-    uint32_t number;
+    uint32_t number, number_too;
     uint64_t long_number;
     h26x_refusal why;
     h26x_constraints said;
     h26x_capability_point points[ROOM];
+    h26x_rtp_packet packet;
+    h26x_report report;
 } there;
 
 /* What a call is given, and what it is to answer. */
 static struct {
-    struct bytes in, extension, to, to_too;
+    struct bytes in, extension, payload, padding, to, to_too;
     size_t *ends, ends_room;
     uint16_t *numbers;
     size_t numbers_room;
@@ -93,12 +98,14 @@ static struct {
     size_t *first, *second;
     uint8_t *small, *small_too;
     uint16_t *missing;
-    uint32_t *number;
+    uint32_t *number, *number_too;
     uint64_t *long_number;
     h26x_refusal *why;
     h26x_constraints *said;
     h26x_capability_point *points;
     size_t points_room;
+    h26x_rtp_packet *packet;
+    h26x_report *report;
     size_t value, other_value;
     uint32_t answer;
 } given;
@@ -122,7 +129,12 @@ enum {
     LONG_NUMBER = 16384,
     TO_TOO = 32768,
     SAID = 65536,
-    POINTS = 131072
+    POINTS = 131072,
+    PACKET = 262144,
+    REPORT = 524288,
+    NUMBER_TOO = 1048576,
+    PAYLOAD = 2097152,
+    PADDING = 4194304
 };
 
 static size_t handed_on;
@@ -156,10 +168,19 @@ static void give(unsigned which)
     given.to_too.at = ANY(which & TO_TOO, there.to_too);
     given.said = ANY(which & SAID, &there.said);
     given.points = ANY(which & POINTS, there.points);
+    given.packet = ANY(which & PACKET, &there.packet);
+    given.report = ANY(which & REPORT, &there.report);
+    given.number_too = ANY(which & NUMBER_TOO, &there.number_too);
+    given.payload.at = ANY(which & PAYLOAD, there.payload);
+    given.padding.at = ANY(which & PADDING, there.padding);
     if ((which & IN) != 0)
         given.in.len = any_len(given.in.at);
     if ((which & EXTENSION) != 0)
         given.extension.len = any_len(given.extension.at);
+    if ((which & PAYLOAD) != 0)
+        given.payload.len = any_len(given.payload.at);
+    if ((which & PADDING) != 0)
+        given.padding.len = any_len(given.padding.at);
     if ((which & TO) != 0)
         given.to.len = any_len(given.to.at);
     if ((which & TO_TOO) != 0)
@@ -225,6 +246,13 @@ static void writes_numbers(uint16_t *at, size_t len)
     is_buffer(at, len, given.numbers, given.numbers_room);
     if (len != 0)
         at[0] = at[len - 1] = 1;
+}
+
+/* (they are 0, or as writes_numbers left them) */
+static void reads_numbers(const uint16_t *at, size_t len)
+{
+    is_buffer(at, len, given.numbers, given.numbers_room);
+    expect(len == 0 || (at[0] <= 1 && at[len - 1] <= 1));
 }
 
 static void writes_points(h26x_capability_point *at, size_t len)
@@ -868,6 +896,276 @@ static void check_h264_profile_level(void)
     hands_on_bool(h26x_h264_profile_level((uint32_t)given.value, given.small, given.small_too));
 }
 
+/* ---- What stands round payloads ---- */
+
+STUB(is_rtcp);
+bool proved_is_rtcp(const uint8_t *datagram, size_t datagram_len)
+{
+    reads(datagram, datagram_len, given.in);
+    return answer() != 0;
+}
+
+static void check_is_rtcp(void)
+{
+    give(IN);
+    hands_on_bool(h26x_is_rtcp(given.in.at, given.in.len));
+}
+
+STUB(rtp_read);
+uint32_t proved_rtp_read(const uint8_t *datagram, size_t datagram_len, h26x_rtp_packet *packet)
+{
+    reads(datagram, datagram_len, given.in);
+    is_output(packet, given.packet);
+    return answer();
+}
+
+static void check_rtp_read(void)
+{
+    give(IN | PACKET);
+    hands_on(h26x_rtp_read(given.in.at, given.in.len, given.packet));
+}
+
+STUB(rtp_original);
+uint32_t proved_rtp_original(const uint8_t *datagram, size_t datagram_len, uint8_t payload_type, uint32_t ssrc,
+                             h26x_rtp_packet *packet)
+{
+    expect(payload_type == (uint8_t)given.value && ssrc == (uint32_t)given.other_value);
+    return proved_rtp_read(datagram, datagram_len, packet);
+}
+
+static void check_rtp_original(void)
+{
+    give(IN | PACKET);
+    hands_on(h26x_rtp_original(given.in.at, given.in.len, (uint8_t)given.value, (uint32_t)given.other_value,
+                               given.packet));
+}
+
+STUB(rtp_write);
+uint32_t proved_rtp_write(const h26x_rtp_header *h, const uint8_t *csrcs, size_t csrcs_len, const uint8_t *extension,
+                          size_t extension_len, const uint8_t *payload, size_t payload_len, const uint8_t *padding,
+                          size_t padding_len, uint8_t *to, size_t room, size_t *len)
+{
+    expect(h == &header);
+    reads(csrcs, csrcs_len, given.in);
+    reads(extension, extension_len, given.extension);
+    reads(payload, payload_len, given.payload);
+    reads(padding, padding_len, given.padding);
+    writes_to(to, room);
+    is_output(len, given.first);
+    return answer();
+}
+
+static void check_rtp_write(void)
+{
+    give(IN | EXTENSION | PAYLOAD | PADDING | TO | FIRST);
+    hands_on(h26x_rtp_write(&header, given.in.at, given.in.len, given.extension.at, given.extension.len,
+                            given.payload.at, given.payload.len, given.padding.at, given.padding.len, given.to.at,
+                            given.to.len, given.first));
+}
+
+STUB(rtp_write_before);
+uint32_t proved_rtp_write_before(const h26x_rtp_header *h, const uint8_t *csrcs, size_t csrcs_len,
+                                 const uint8_t *extension, size_t extension_len, bool padded, size_t place, uint8_t *to,
+                                 size_t room, size_t *len)
+{
+    expect(h == &header && padded == (given.other_value != 0) && place == given.value);
+    reads(csrcs, csrcs_len, given.in);
+    reads(extension, extension_len, given.extension);
+    writes_to(to, room);
+    is_output(len, given.first);
+    return answer();
+}
+
+static void check_rtp_write_before(void)
+{
+    give(IN | EXTENSION | TO | FIRST);
+    hands_on(h26x_rtp_write_before(&header, given.in.at, given.in.len, given.extension.at, given.extension.len,
+                                   given.other_value != 0, given.value, given.to.at, given.to.len, given.first));
+}
+
+STUB(rtx_write);
+uint32_t proved_rtx_write(const uint8_t *datagram, size_t datagram_len, uint8_t payload_type, uint16_t sequence,
+                          uint32_t ssrc, uint8_t *to, size_t room, size_t *len)
+{
+    expect(payload_type == (uint8_t)given.value && sequence == (uint16_t)given.other_value
+           && ssrc == (uint32_t)given.other_value);
+    reads(datagram, datagram_len, given.in);
+    writes_to(to, room);
+    is_output(len, given.first);
+    return answer();
+}
+
+static void check_rtx_write(void)
+{
+    give(IN | TO | FIRST);
+    hands_on(h26x_rtx_write(given.in.at, given.in.len, (uint8_t)given.value, (uint16_t)given.other_value,
+                            (uint32_t)given.other_value, given.to.at, given.to.len, given.first));
+}
+
+STUB(red_primary);
+uint32_t proved_red_primary(const uint8_t *payload, size_t payload_len, uint8_t *payload_type, size_t *place)
+{
+    reads(payload, payload_len, given.in);
+    is_output(payload_type, given.small);
+    is_output(place, given.first);
+    return answer();
+}
+
+static void check_red_primary(void)
+{
+    give(IN | SMALL | FIRST);
+    hands_on(h26x_red_primary(given.in.at, given.in.len, given.small, given.first));
+}
+
+STUB(pli_write);
+uint32_t proved_pli_write(uint32_t sender, uint32_t media, uint8_t *to, size_t room, size_t *len)
+{
+    expect(sender == (uint32_t)given.value && media == (uint32_t)given.other_value);
+    writes_to(to, room);
+    is_output(len, given.first);
+    return answer();
+}
+
+static void check_pli_write(void)
+{
+    give(TO | FIRST);
+    hands_on(h26x_pli_write((uint32_t)given.value, (uint32_t)given.other_value, given.to.at, given.to.len, given.first));
+}
+
+STUB(pli_read);
+bool proved_pli_read(const uint8_t *packet, size_t packet_len, uint32_t *sender, uint32_t *media)
+{
+    reads(packet, packet_len, given.in);
+    is_output(sender, given.number);
+    is_output(media, given.number_too);
+    return answer() != 0;
+}
+
+static void check_pli_read(void)
+{
+    give(IN | NUMBER | NUMBER_TOO);
+    hands_on_bool(h26x_pli_read(given.in.at, given.in.len, given.number, given.number_too));
+}
+
+STUB(fir_write);
+uint32_t proved_fir_write(uint32_t sender, uint32_t media, uint8_t number, uint8_t *to, size_t room, size_t *len)
+{
+    expect(number == (uint8_t)given.other_value);
+    return proved_pli_write(sender, media, to, room, len);
+}
+
+static void check_fir_write(void)
+{
+    give(TO | FIRST);
+    hands_on(h26x_fir_write((uint32_t)given.value, (uint32_t)given.other_value, (uint8_t)given.other_value, given.to.at,
+                            given.to.len, given.first));
+}
+
+STUB(fir_read);
+bool proved_fir_read(const uint8_t *packet, size_t packet_len, uint32_t *sender, uint32_t *media, uint8_t *number)
+{
+    is_output(number, given.small);
+    return proved_pli_read(packet, packet_len, sender, media);
+}
+
+static void check_fir_read(void)
+{
+    give(IN | NUMBER | NUMBER_TOO | SMALL);
+    hands_on_bool(h26x_fir_read(given.in.at, given.in.len, given.number, given.number_too, given.small));
+}
+
+STUB(receiver_report_write);
+uint32_t proved_receiver_report_write(uint32_t sender, const h26x_report *report, uint8_t *to, size_t room, size_t *len)
+{
+    expect(report == &report_given);
+    return proved_pli_write(sender, (uint32_t)given.other_value, to, room, len);
+}
+
+static void check_receiver_report_write(void)
+{
+    give(TO | FIRST);
+    hands_on(h26x_receiver_report_write((uint32_t)given.value, &report_given, given.to.at, given.to.len, given.first));
+}
+
+STUB(receiver_report_read);
+bool proved_receiver_report_read(const uint8_t *packet, size_t packet_len, uint32_t *sender, h26x_report *report)
+{
+    reads(packet, packet_len, given.in);
+    is_output(sender, given.number);
+    is_output(report, given.report);
+    return answer() != 0;
+}
+
+static void check_receiver_report_read(void)
+{
+    give(IN | NUMBER | REPORT);
+    hands_on_bool(h26x_receiver_report_read(given.in.at, given.in.len, given.number, given.report));
+}
+
+STUB(nack_write);
+uint32_t proved_nack_write(uint32_t sender, uint32_t media, const uint16_t *numbers, size_t numbers_len, uint8_t *to,
+                           size_t room, size_t *len, size_t *count)
+{
+    reads_numbers(numbers, numbers_len);
+    is_output(count, given.second);
+    return proved_pli_write(sender, media, to, room, len);
+}
+
+static void check_nack_write(void)
+{
+    give(NUMBERS | TO | FIRST | SECOND);
+    hands_on(h26x_nack_write((uint32_t)given.value, (uint32_t)given.other_value, given.numbers, given.numbers_room,
+                             given.to.at, given.to.len, given.first, given.second));
+}
+
+STUB(nack_read);
+bool proved_nack_read(const uint8_t *packet, size_t packet_len, uint32_t *sender, uint32_t *media, uint16_t *numbers,
+                      size_t numbers_room, size_t *count)
+{
+    writes_numbers(numbers, numbers_room);
+    is_output(count, given.first);
+    return proved_pli_read(packet, packet_len, sender, media);
+}
+
+static void check_nack_read(void)
+{
+    give(IN | NUMBER | NUMBER_TOO | NUMBERS | FIRST);
+    hands_on_bool(h26x_nack_read(given.in.at, given.in.len, given.number, given.number_too, given.numbers,
+                                 given.numbers_room, given.first));
+}
+
+STUB(rtcp_next);
+bool proved_rtcp_next(const uint8_t *datagram, size_t datagram_len, size_t from, size_t *end)
+{
+    expect(from == given.value);
+    reads(datagram, datagram_len, given.in);
+    is_output(end, given.first);
+    return answer() != 0;
+}
+
+static void check_rtcp_next(void)
+{
+    give(IN | FIRST);
+    hands_on_bool(h26x_rtcp_next(given.in.at, given.in.len, given.value, given.first));
+}
+
+STUB(rtp_statistics_report);
+void proved_rtp_statistics_report(h26x_rtp_statistics *it, uint32_t ssrc, uint32_t last_sender_report, uint32_t delay,
+                                  h26x_report *report)
+{
+    expect(it == &statistics && ssrc == (uint32_t)given.value && last_sender_report == (uint32_t)given.other_value
+           && delay == 7);
+    is_output(report, given.report);
+    answer();
+}
+
+static void check_rtp_statistics_report(void)
+{
+    give(REPORT);
+    h26x_rtp_statistics_report(&statistics, (uint32_t)given.value, (uint32_t)given.other_value, 7, given.report);
+    expect(handed_on == 1);
+}
+
 /* ---- Format parameters of SDP ---- */
 
 STUB(sdp_free);
@@ -1151,6 +1449,23 @@ int main(void)
     in_each_case(check_next_unit);
     in_each_case(check_unit_is_plain);
     in_each_case(check_h264_profile_level);
+    in_each_case(check_is_rtcp);
+    in_each_case(check_rtp_read);
+    in_each_case(check_rtp_original);
+    in_each_case(check_rtp_write);
+    in_each_case(check_rtp_write_before);
+    in_each_case(check_rtx_write);
+    in_each_case(check_red_primary);
+    in_each_case(check_pli_write);
+    in_each_case(check_pli_read);
+    in_each_case(check_fir_write);
+    in_each_case(check_fir_read);
+    in_each_case(check_receiver_report_write);
+    in_each_case(check_receiver_report_read);
+    in_each_case(check_nack_write);
+    in_each_case(check_nack_read);
+    in_each_case(check_rtcp_next);
+    in_each_case(check_rtp_statistics_report);
     in_each_case(check_sdp_free);
     in_each_case(check_sdp_read);
     in_each_case(check_sdp_of_payload);

@@ -136,6 +136,42 @@ static void check_null_of_h265(struct tally *t, size_t len)
     expect(t, h26x_h265_paci_packet(unit, 3, NULL, 0, NULL, len, &size) == H26X_OK && size == 5);
 }
 
+/* The same of the calls on what stands round payloads. */
+static void check_null_round_payloads(struct tally *t, size_t len)
+{
+    const h26x_rtp_header header = {.sequence = 7, .has_extension = true};
+    const uint16_t numbers[] = {5, 6};
+    uint8_t to[40] = {7}, small = 9;
+    size_t size = 9, count = 9;
+    uint32_t sender = 9;
+    expect(t, !h26x_is_rtcp(NULL, len) && h26x_rtp_read(NULL, len, NULL) == H26X_RTP_TOO_SHORT);
+    expect(t, h26x_rtp_original(NULL, len, 96, 1, NULL) == H26X_RTP_TOO_SHORT);
+    expect(t, h26x_rtx_write(NULL, len, 96, 1, 2, to, 40, &size) == H26X_RTP_TOO_SHORT);
+    expect(t, h26x_red_primary(NULL, len, &small, &size) == H26X_RED_HEADERS_PAST_THE_END && small == 9 && size == 9);
+    expect(t, !h26x_pli_read(NULL, len, &sender, NULL) && !h26x_fir_read(NULL, len, &sender, NULL, NULL));
+    expect(t, !h26x_receiver_report_read(NULL, len, &sender, NULL) && sender == 9 && to[0] == 7);
+    expect(t, !h26x_nack_read(NULL, len, &sender, NULL, NULL, len, &count) && sender == 9 && count == 9);
+    expect(t, !h26x_rtcp_next(NULL, len, 0, &count) && !h26x_rtcp_next(NULL, len, len, &count) && count == 9);
+    expect(t,
+           h26x_rtp_write(&header, NULL, len, NULL, len, NULL, len, NULL, len, to, 40, &size) == H26X_OK && size == 16);
+    expect(t, is_same(to, 16, "9000 0007 00000000 00000000 00000000"));
+    expect(t, h26x_rtp_write(&header, NULL, 0, NULL, 0, NULL, 0, NULL, 0, NULL, len, NULL) == H26X_NO_ROOM);
+    expect(t, h26x_rtp_write_before(&header, NULL, len, NULL, len, true, 16, to, 40, NULL) == H26X_OK && to[0] == 0xb0);
+    expect(t,
+           h26x_rtp_write_before(&header, NULL, 0, NULL, 0, true, 16, NULL, len, &size) == H26X_NO_ROOM && size == 16);
+    expect(t, h26x_rtx_write(to, 16, 96, 1, 2, NULL, len, NULL) == H26X_RTP_PADDING_TOO_LONG);
+    expect(t, h26x_pli_write(1, 2, NULL, len, &size) == H26X_NO_ROOM && size == 12);
+    expect(t, h26x_fir_write(1, 2, 3, NULL, len, &size) == H26X_NO_ROOM && size == 20);
+    expect(t, h26x_receiver_report_write(1, &(h26x_report){.ssrc = 2}, NULL, len, &size) == H26X_NO_ROOM && size == 32);
+    expect(t, h26x_pli_write(1, 2, NULL, len, NULL) == H26X_NO_ROOM);
+    expect(t, h26x_nack_write(1, 2, numbers, 2, NULL, len, &size, &count) == H26X_NO_ROOM && size == 16 && count == 9);
+    expect(t, h26x_nack_write(1, 2, NULL, len, to, 40, &size, &count) == H26X_OK && size == 0 && count == 0);
+    expect(t, h26x_nack_write(1, 2, numbers, 2, to, 40, NULL, NULL) == H26X_OK);
+    expect(t, is_same(to, 16, "81cd0003 00000001 00000002 00050001") && h26x_rtcp_next(to, 16, 0, NULL));
+    expect(t, h26x_nack_read(to, 16, NULL, NULL, NULL, len, &count) && count == 2);
+    expect(t, h26x_nack_read(to, 16, NULL, NULL, NULL, 0, NULL));
+}
+
 /* NULL with a length of one byte, of some, and of as many as there can be. */
 static void check_null_with_lengths(struct tally *t)
 {
@@ -146,6 +182,7 @@ static void check_null_with_lengths(struct tally *t)
         check_inputs_of_null(t, H26X_H266, lengths[i]);
         check_memory_of_null(t, lengths[i]);
         check_null_of_h265(t, lengths[i]);
+        check_null_round_payloads(t, lengths[i]);
     }
 }
 
@@ -247,14 +284,15 @@ static void check_frees(struct tally *t)
 static bool is_code(uint32_t n)
 {
     return n <= H26X_UNIT_TOO_LONG || (H26X_SDP_OPEN_BRACE <= n && n <= H26X_SDP_NO_PROFILE)
-        || (H26X_SDP_NO_ANSWER <= n && n <= H26X_SDP_LONG_CONSTRAINTS);
+        || (H26X_SDP_NO_ANSWER <= n && n <= H26X_SDP_LONG_CONSTRAINTS)
+        || (H26X_RTP_TOO_SHORT <= n && n <= H26X_RED_BLOCKS_PAST_THE_END);
 }
 
 /* Each code has words of its own, and so do numbers that are none. */
 static void check_words(struct tally *t)
 {
     char version[16];
-    for (uint32_t code = 0; code <= H26X_SDP_LONG_CONSTRAINTS + 1; code++) {
+    for (uint32_t code = 0; code <= H26X_RED_BLOCKS_PAST_THE_END + 1; code++) {
         for (uint32_t other = 0; other < code; other++)
             expect(t, (strcmp(h26x_strerror(code), h26x_strerror(other)) == 0) == (!is_code(code) && !is_code(other)));
         expect(t, is_code(code) == (strcmp(h26x_strerror(code), h26x_strerror(UINT32_MAX)) != 0));

@@ -693,6 +693,32 @@ static void look_without_memory(const struct codec *c)
     without_memory(h26x_out_size_hint(1200) == 1208);
 }
 
+/* What stands round payloads takes no memory. */
+static void wrap_without_memory(void)
+{
+    const h26x_rtp_header header = {.sequence = 7, .payload_type = 96};
+    const h26x_report report = {.ssrc = 2};
+    uint16_t numbers[] = {5, 22};
+    h26x_rtp_statistics statistics = {0};
+    size_t len = 0, resent = 0, end = 0, count = 0;
+    without_memory(h26x_rtp_write(&header, NULL, 0, NULL, 0, unit, 9, NULL, 0, packet, ROOM, &len) == H26X_OK);
+    without_memory(h26x_rtp_read(packet, len, NULL) == H26X_OK && !h26x_is_rtcp(packet, len));
+    without_memory(h26x_rtx_write(packet, len, 97, 8, 9, to, ROOM, &resent) == H26X_OK);
+    without_memory(h26x_rtp_original(to, resent, 96, 7, NULL) == H26X_OK && resent == len + 2);
+    without_memory(h26x_rtp_write_before(&header, NULL, 0, NULL, 0, false, 12, packet, ROOM, &len) == H26X_OK);
+    without_memory(h26x_red_primary((const uint8_t *)"\x60", 1, NULL, NULL) == H26X_OK);
+    without_memory(h26x_pli_write(1, 2, to, ROOM, &len) == H26X_OK && h26x_pli_read(to, len, NULL, NULL));
+    without_memory(h26x_fir_write(1, 2, 3, to, ROOM, &len) == H26X_OK && h26x_fir_read(to, len, NULL, NULL, NULL));
+    without_memory(h26x_receiver_report_write(1, &report, to, ROOM, &len) == H26X_OK
+                   && h26x_receiver_report_read(to, len, NULL, NULL));
+    without_memory(h26x_nack_write(1, 2, numbers, 2, to, ROOM, &len, &count) == H26X_OK && count == 2);
+    without_memory(h26x_nack_read(to, len, NULL, NULL, numbers, 2, &count) && count == 2);
+    without_memory(h26x_rtcp_next(to, len, 0, &end) && end == len);
+    without_memory(h26x_rtp_statistics_receive(&statistics, 0, 7, 0, 9));
+    without_memory((h26x_rtp_statistics_recover(&statistics), statistics.recovered == 1));
+    without_memory((h26x_rtp_statistics_report(&statistics, 7, 0, 0, NULL), statistics.expected_before == 1));
+}
+
 #define TEXT(text) (const uint8_t *)(text), strlen(text)
 
 /* A format's line with a parameter that is units and one that no RFC has, and the name of the former. */
@@ -798,6 +824,7 @@ int main(void)
     receive_with_room();
     receive_without_memory();
     refuse_packing();
+    wrap_without_memory();
     for (size_t i = 0; i < sizeof formats / sizeof formats[0]; i++)
         refuse_formats(&formats[i]);
     refuse_values();

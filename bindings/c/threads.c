@@ -190,6 +190,7 @@ static void ask_shared_ends(const struct shared *s, const struct codec *c)
 static void ask(const struct codec *c)
 {
     static const uint8_t payload[] = {0, 0, 1, 0x65, 1, 2, 0, 0, 1, 0x41, 3};
+    static const uint16_t numbers[] = {5, 22};
     uint8_t unit[2 + UNIT];
     size_t begin, end;
     expect(h26x_next_unit(c->number, payload, sizeof payload, 0, &begin, &end) && begin == 3 && end == 6);
@@ -198,6 +199,11 @@ static void ask(const struct codec *c)
     expect(h26x_begins_keyframe(c->number, false, unit, make_unit(c, 1, unit)));
     expect(h26x_is_partition_head(c->number, c->header, 2));
     expect(h26x_is_partition_tail(c->number, true, c->header, 2));
+    expect(!h26x_is_rtcp(payload, sizeof payload)
+           && h26x_rtp_read(payload, sizeof payload, NULL) == H26X_RTP_TOO_SHORT);
+    expect(h26x_pli_write(1, 2, unit, sizeof unit, &end) == H26X_OK && h26x_pli_read(unit, end, NULL, NULL));
+    expect(h26x_nack_write(1, 2, numbers, 2, unit, sizeof unit, &end, NULL) == H26X_OK
+           && h26x_nack_read(unit, end, NULL, NULL, NULL, 0, NULL) && h26x_rtcp_next(unit, end, 0, NULL));
     expect(h26x_h265_is_known(1, 0, 93) && h26x_h266_is_known(1, 0, 51));
     expect(strcmp(h26x_strerror(H26X_OUT_OF_MEMORY), "") != 0 && h26x_codec_name(c->number) != NULL);
 }

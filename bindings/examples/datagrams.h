@@ -7,6 +7,9 @@
 #include <stddef.h>
 #include <stdint.h>
 
+/* How long RTP's header is without CSRCs and an extension (RFC 3550, 5.1). */
+enum { RTP_HEADER = 12 };
+
 /* Packets as h26x_packetize_into leaves them: the n-th ends at ends[n], where the next begins. */
 struct packets {
     const uint8_t *at;

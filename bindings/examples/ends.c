@@ -28,7 +28,8 @@ static void grow(struct server *s, size_t count, size_t size)
 
 bool make_ends(uint32_t codec, struct server *server, struct client *client)
 {
-    *server = (struct server){.header = {PAYLOAD_TYPE, false, FIRST_SEQUENCE, 0, SOURCE}};
+    *server = (struct server){
+        .header = {.payload_type = PAYLOAD_TYPE, .sequence = FIRST_SEQUENCE, .ssrc = SOURCE}};
     *client = (struct client){0};
     if (h26x_packetizer_new(codec, false, &server->packetizer) != H26X_OK
         || h26x_receiver_new(codec, false, false, RUN_LIMIT, &client->receiver) != H26X_OK)
@@ -45,15 +46,24 @@ void free_ends(struct server *server, struct client *client)
     free(client->at);
 }
 
+bool write_header(const h26x_rtp_header *header, uint8_t *packet)
+{
+    return h26x_rtp_write_before(header, NULL, 0, NULL, 0, false, RTP_HEADER, packet, RTP_HEADER,
+                                 NULL)
+        == H26X_OK;
+}
+
 /* Writes each packet's header before it. Those of a frame have one timestamp. */
-static void write_headers(struct server *s, const struct packets *made)
+static bool write_headers(struct server *s, const struct packets *made)
 {
     for (size_t i = 0; i < made->count; i++) {
         s->header.marker = i + 1 == made->count;
-        rtp_write(s->at + packet_begin(made, i), &s->header);
+        if (!write_header(&s->header, s->at + packet_begin(made, i)))
+            return fail("a header isn't written");
         s->header.sequence++;
     }
     s->header.timestamp += TICKS_A_FRAME;
+    return true;
 }
 
 /* Where the buffer has no room for the packets it grows, and the call is made again. */
@@ -72,8 +82,7 @@ bool make_packets(struct server *s, size_t limit, const uint8_t *frame, size_t l
         return fail(h26x_strerror(code));
     }
     *made = (struct packets){s->at, s->ends, count};
-    write_headers(s, made);
-    return true;
+    return write_headers(s, made);
 }
 
 /* Units that have no room are kept behind the handle up to the next packet, and copied once there

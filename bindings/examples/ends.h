@@ -5,7 +5,9 @@
 
 #include "datagrams.h"
 #include "h26x.h"
-#include "rtp.h"
+
+/* Writes a header of RTP_HEADER bytes before a packet's payload. */
+bool write_header(const h26x_rtp_header *header, uint8_t *packet);
 
 /* A server's end: a packetizer, the buffer for a frame's packets with the ends of these, the header
  * of the next packet, and what sends. */
@@ -14,7 +16,7 @@ struct server {
     uint8_t *at;
     size_t *ends;
     size_t room, ends_room;
-    struct rtp header;
+    h26x_rtp_header header;
     struct sender sender;
 };
 

@@ -126,15 +126,18 @@ static bool make_all(struct sent *sent, struct server *server, const struct stre
 }
 
 /* Numbers the packets from a first one on. */
-static void number_packets(struct sent *s, uint16_t first)
+static bool number_packets(struct sent *s, uint16_t first)
 {
-    struct rtp header;
+    h26x_rtp_packet packet;
     for (size_t n = 0; n < s->packets.count; n++) {
-        uint8_t *packet = s->at + packet_begin(&s->packets, n);
-        rtp_read(packet, RTP_HEADER, &header);
-        header.sequence = (uint16_t)(first + n);
-        rtp_write(packet, &header);
+        uint8_t *at = s->at + packet_begin(&s->packets, n);
+        if (h26x_rtp_read(at, RTP_HEADER, &packet) != H26X_OK)
+            return fail("a header isn't read");
+        packet.header.sequence = (uint16_t)(first + n);
+        if (!write_header(&packet.header, at))
+            return fail("a header isn't written");
     }
+    return true;
 }
 
 /* A packet as packets that are sent. */
@@ -202,17 +205,19 @@ static bool is_sent_so(const struct test *t, size_t packet, const uint8_t *at, s
 static bool take_datagram(struct test *t, const uint8_t *at, size_t len)
 {
     const size_t before = t->round.outcome.up_to;
-    struct rtp header;
+    h26x_rtp_packet read;
     struct answer is;
-    if (!rtp_read(at, len, &header))
-        return fail("a datagram is no packet of RTP");
-    const size_t packet = (uint16_t)(header.sequence - t->round.first_number);
+    const uint32_t code = h26x_rtp_read(at, len, &read);
+    if (code != H26X_OK)
+        return fail(h26x_strerror(code));
+    const uint16_t sequence = read.header.sequence;
+    const size_t packet = (uint16_t)(sequence - t->round.first_number);
     if (!is_sent_so(t, packet, at, len))
         return false;
     const struct answer must = must_answer(&t->round.outcome, packet);
     count_packet(t, packet, &must, before);
-    return take_payload(&t->client, header.sequence, at + RTP_HEADER, len - RTP_HEADER, &is)
-        && is_answer(t, header.sequence, &must, &is);
+    return take_payload(&t->client, sequence, at + read.payload, read.payload_len, &is)
+        && is_answer(t, sequence, &must, &is);
 }
 
 /* Waits for datagrams, and takes them. */
@@ -306,7 +311,8 @@ static bool begin_round(struct test *t)
     struct round *r = &t->round;
     const size_t count = t->sent.packets.count;
     r->first_number = (uint16_t)(0 - draw_below(&t->draws, count));
-    number_packets(&t->sent, r->first_number);
+    if (!number_packets(&t->sent, r->first_number))
+        return false;
     memset(r->times, 0, count * sizeof *r->times);
     memset(r->outcome.is_taken, 0, count * sizeof *r->outcome.is_taken);
     r->outcome.up_to = r->came = t->client.len = 0;

@@ -40,7 +40,7 @@ enum { OF = 10, PADDINGS = 3 };
 enum { ASKED = 512 };
 
 /* Padding of so many bytes, the last of which says how many (RFC 3550, 5.1). */
-enum { PADDING = 16, HAS_PADDING = 0x20 };
+enum { PADDING = 16 };
 
 /* ---- The sender ---- */
 
@@ -62,17 +62,21 @@ static void append_packet(struct history *h, const uint8_t *packet, size_t len)
 }
 
 /* Padding alone, as congestion control sends it: a number, and nothing of the stream. */
-static void append_padding(struct history *h, struct server *s)
+static bool append_padding(struct history *h, struct server *s)
 {
-    uint8_t packet[RTP_HEADER + PADDING] = {0};
+    static const uint8_t padding[PADDING] = {[PADDING - 1] = PADDING};
+    uint8_t packet[RTP_HEADER + PADDING];
+    size_t len;
+    s->header.marker = false;
     for (int i = 0; i < PADDINGS; i++) {
-        s->header.marker = false;
-        rtp_write(packet, &s->header);
-        packet[0] |= HAS_PADDING;
-        packet[sizeof packet - 1] = PADDING;
-        append_packet(h, packet, sizeof packet);
+        if (h26x_rtp_write(&s->header, NULL, 0, NULL, 0, NULL, 0, padding, PADDING, packet,
+                           sizeof packet, &len)
+            != H26X_OK)
+            return fail("padding isn't written");
+        append_packet(h, packet, len);
         s->header.sequence++;
     }
+    return true;
 }
 
 /* Makes the packets of a stream, with padding behind each tenth frame, and at the end, where a
@@ -88,11 +92,10 @@ static bool make_history(const struct stream *s, struct server *server, struct h
         for (size_t n = 0; n < made.count; n++)
             append_packet(h, made.at + packet_begin(&made, n),
                           made.ends[n] - packet_begin(&made, n));
-        if (++frames % 10 == 0)
-            append_padding(h, server);
+        if (++frames % 10 == 0 && !append_padding(h, server))
+            return false;
     }
-    append_padding(h, server);
-    return true;
+    return append_padding(h, server);
 }
 
 /* What sends the packets, and what became of them; and the one that goes behind the next, if one
@@ -135,20 +138,18 @@ static bool send_lossy(struct lossy *l, size_t n)
 static bool answer_packet(struct lossy *l, const uint8_t *packet, size_t len)
 {
     uint16_t numbers[ASKED];
-    switch (rtcp_read(packet, len)) {
-    case RTCP_BYE:
-        l->is_over = true;
-        return true;
-    case RTCP_PLI:
+    if (h26x_pli_read(packet, len, NULL, NULL)) {
         l->keyframes_asked++;
         return true;
-    case RTCP_OTHER:
-        return true;
-    case RTCP_NACK:
-        break;
     }
-    const size_t count = rtcp_read_nack(packet, len, numbers, ASKED);
-    for (size_t i = 0; i < count; i++) {
+    if (rtcp_is_bye(packet, len)) {
+        l->is_over = true;
+        return true;
+    }
+    size_t count;
+    if (!h26x_nack_read(packet, len, NULL, NULL, numbers, ASKED, &count))
+        return true;
+    for (size_t i = 0; i < count && i < ASKED; i++) {
         const size_t n = (uint16_t)(numbers[i] - l->history->first);
         if (n >= l->history->count)
             continue;
@@ -159,6 +160,16 @@ static bool answer_packet(struct lossy *l, const uint8_t *packet, size_t len)
     return true;
 }
 
+/* Does what the packets of a datagram of RTCP ask for. */
+static bool answer_datagram(struct lossy *l, const uint8_t *at, size_t len)
+{
+    size_t end;
+    for (size_t from = 0; h26x_rtcp_next(at, len, from, &end); from = end)
+        if (!answer_packet(l, at + from, end - from))
+            return false;
+    return true;
+}
+
 /* Does what comes within so many milliseconds asks for. */
 static bool answer_for(struct lossy *l, int milliseconds)
 {
@@ -166,7 +177,7 @@ static bool answer_for(struct lossy *l, int milliseconds)
     struct pollfd waits = {.fd = l->socket, .events = POLLIN};
     while (poll(&waits, 1, milliseconds) > 0) {
         const ssize_t len = recv(l->socket, packet, sizeof packet, MSG_DONTWAIT);
-        if (len > 0 && !answer_packet(l, packet, (size_t)len))
+        if (len > 0 && !answer_datagram(l, packet, (size_t)len))
             return false;
         milliseconds = 0;
     }
@@ -216,20 +227,17 @@ static bool say(struct recorder *r, const uint8_t *packet, size_t len)
 }
 
 /* Gives a datagram to the receiver. Padding is no payload; what is none of RTP is passed over. */
-static bool take_datagram(struct recorder *r, uint32_t now, uint8_t *packet, size_t len)
+static bool take_datagram(struct recorder *r, uint32_t now, const uint8_t *at, size_t len)
 {
-    struct rtp header;
-    const bool has_padding = len > RTP_HEADER && packet[0] & HAS_PADDING;
-    const size_t padding = has_padding ? packet[len - 1] : 0;
-    if (has_padding)
-        packet[0] ^= HAS_PADDING;
-    if (!rtp_read(packet, len, &header) || padding > len - RTP_HEADER)
+    h26x_rtp_packet packet;
+    if (h26x_is_rtcp(at, len) || h26x_rtp_read(at, len, &packet) != H26X_OK)
         return true;
+    const h26x_rtp_header *header = &packet.header;
     r->has_come = true;
-    r->source = header.source;
+    r->source = header->ssrc;
     const uint32_t code =
-        h26x_access_units_push(&r->units, now, header.sequence, header.timestamp, header.marker,
-                               packet + RTP_HEADER, len - RTP_HEADER - padding, NULL, NULL);
+        h26x_access_units_push(&r->units, now, header->sequence, header->timestamp, header->marker,
+                               at + packet.payload, packet.payload_len, NULL, NULL);
     return code == H26X_OK || fail(h26x_strerror(code));
 }
 
@@ -253,6 +261,7 @@ static bool take_datagrams(struct recorder *r, uint32_t now)
 static bool record(struct recorder *r, const h26x_access_unit *unit)
 {
     uint8_t packet[RTCP_ROOM];
+    size_t len;
     const bool asks = !unit->is_clean && !r->asks;
     r->asks = !unit->is_clean;
     if (unit->is_clean) {
@@ -261,7 +270,10 @@ static bool record(struct recorder *r, const h26x_access_unit *unit)
         r->len += unit->len;
         r->recorded++;
     }
-    return !asks || say(r, packet, rtcp_write_pli(packet, r->source));
+    if (!asks)
+        return true;
+    return h26x_pli_write(RTCP_SENDER, r->source, packet, sizeof packet, &len) == H26X_OK
+        && say(r, packet, len);
 }
 
 /* Takes the access units that have ended. */
@@ -289,12 +301,13 @@ static bool ask_again(struct recorder *r, uint32_t now)
     const h26x_nack_times times = {.first = 0, .again = ASK_EACH, .most = MAX_WAIT / ASK_EACH};
     uint16_t numbers[ASKED];
     uint8_t packet[RTCP_ROOM];
-    size_t count = 0, asked;
+    size_t count = 0, asked, len;
     if (h26x_access_units_nacks(&r->units, now, &times, numbers, ASKED, &count) != H26X_OK)
         return fail("no memory");
     for (size_t from = 0; from < count; from += asked) {
-        const size_t len = rtcp_write_nack(packet, r->source, numbers + from, count - from, &asked);
-        if (!say(r, packet, len))
+        const uint32_t code = h26x_nack_write(RTCP_SENDER, r->source, numbers + from, count - from,
+                                              packet, sizeof packet, &len, &asked);
+        if (code != H26X_OK || !say(r, packet, len))
             return false;
     }
     return true;

@@ -4,7 +4,6 @@
 #include "access_units.h"
 #include "datagrams.h"
 #include "h26x.h"
-#include "rtp.h"
 #include <errno.h>
 #include <stdio.h>
 #include <stdlib.h>

@@ -37,19 +37,20 @@ static bool send_frame(struct server *s, size_t limit, const uint8_t *frame, siz
 
 /* Takes a packet, which must be the next of the frame: it has the frame's header, and the last one
  * alone has the marker. No packet may be missing here. */
-static bool take_packet(struct client *c, const struct rtp *frame, const uint8_t *packet,
+static bool take_packet(struct client *c, const h26x_rtp_header *frame, const uint8_t *at,
                         size_t len, bool is_last)
 {
-    struct rtp header;
+    h26x_rtp_packet packet;
     struct answer answer;
-    if (!rtp_read(packet, len, &header))
-        return fail("a datagram is no packet of RTP");
-    if (header.marker != is_last)
+    const uint32_t code = h26x_rtp_read(at, len, &packet);
+    if (code != H26X_OK)
+        return fail(h26x_strerror(code));
+    if (packet.header.marker != is_last)
         return fail("the marker is on another packet than the last of a frame");
-    if (header.payload_type != frame->payload_type || header.source != frame->source
-        || header.timestamp != frame->timestamp)
+    if (packet.header.payload_type != frame->payload_type || packet.header.ssrc != frame->ssrc
+        || packet.header.timestamp != frame->timestamp)
         return fail("a header differs");
-    if (!take_payload(c, header.sequence, packet + RTP_HEADER, len - RTP_HEADER, &answer))
+    if (!take_payload(c, packet.header.sequence, at + packet.payload, packet.payload_len, &answer))
         return false;
     if (answer.received == H26X_GAP || answer.received == H26X_TOO_LONG)
         return fail("a packet was lost, or a unit is too long");
@@ -59,7 +60,7 @@ static bool take_packet(struct client *c, const struct rtp *frame, const uint8_t
 /* Takes the packets of a frame, so many. Before they are read no other frame is sent, so what waits
  * at the socket is a frame at most. Where its buffer has no room for that, which is so from some
  * megabytes on, the kernel drops packets, and it fails. */
-static bool receive_frame(struct client *c, const struct rtp *frame, size_t count)
+static bool receive_frame(struct client *c, const h26x_rtp_header *frame, size_t count)
 {
     static struct inbox in;
     size_t taken = 0;
@@ -85,7 +86,7 @@ static bool carry(const struct stream *s, struct server *server, struct client *
 {
     size_t begin, end = 0, count;
     while (next_access_unit(s->codec, s->at, s->len, end, &begin, &end)) {
-        const struct rtp frame = server->header;
+        const h26x_rtp_header frame = server->header;
         if (!send_frame(server, s->limit, s->at + begin, end - begin, &count)
             || !receive_frame(client, &frame, count))
             return false;

@@ -20,22 +20,29 @@ func TestAnswerRows(t *testing.T) {
 			continue
 		}
 		columns := strings.Split(row, "|")
-		if len(columns) != 4 {
+		if len(columns) == 4 {
+			columns = append(columns, columns[3])
+		}
+		if len(columns) != 5 {
 			t.Fatal(row)
 		}
 		for i := range columns {
 			columns[i] = strings.TrimSpace(columns[i])
 		}
-		codec, wanted := codecs[columns[0]], columns[3]
-		got := "-"
-		answer, err := formatOf(t, codec, columns[1]).Answer(formatOf(t, codec, columns[2]))
-		if !errors.Is(err, h26x.ErrSDPNoAnswer) {
-			done(t, err)
-			got = answer.String()
-			done(t, answer.Close())
-		}
-		if got != wanted {
-			t.Errorf("%s: got %s", row, got)
+		offered, ours := formatOf(t, codecs[columns[0]], columns[1]), formatOf(t, codecs[columns[0]], columns[2])
+		for i, answered := range []func(*h26x.FormatParameters) (*h26x.FormatParameters, error){
+			offered.Answer, offered.AnswerAnyOrder,
+		} {
+			got := "-"
+			answer, err := answered(ours)
+			if !errors.Is(err, h26x.ErrSDPNoAnswer) {
+				done(t, err)
+				got = answer.String()
+				done(t, answer.Close())
+			}
+			if got != columns[3+i] {
+				t.Errorf("%s: got %s", row, got)
+			}
 		}
 		rows++
 	}

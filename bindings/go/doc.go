@@ -6,7 +6,8 @@
 // A [Packetizer] cuts encoded video into RTP payloads within a limit. A [Depacketizer] puts the units
 // together again, a [Receiver] does where packets come with their sequence numbers and some may be
 // missing, and an [AccessUnitReceiver] gives out access units of packets that come in any order. RTP's own
-// header is the caller's. [FormatParameters] of SDP are read and answered.
+// header, RTX and some of RTCP are read and written, and RED is read ([ReadRTP], [RTPHeader.WriteBefore]). [FormatParameters] of SDP are read
+// and answered.
 //
 // A Packetizer has the method of Pion's rtp.Payloader, and a Depacketizer those of its
 // rtp.Depacketizer, so they go where Pion asks for these.

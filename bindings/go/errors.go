@@ -47,7 +47,8 @@ const (
 	ErrNotOfThisCodec Code = C.H26X_NOT_OF_THIS_CODEC
 	// ErrOutOfRange: a largest packet size is under 4, or a window is negative or over 16384.
 	ErrOutOfRange Code = C.H26X_OUT_OF_RANGE
-	// ErrNoRoom: what is written doesn't fit. No call here answers it.
+	// ErrNoRoom: a header doesn't fit before a payload, or a NACK of one number where it may go. First is how many bytes
+	// it has.
 	ErrNoRoom Code = C.H26X_NO_ROOM
 	// ErrNothingYet: no access unit has ended. No call here answers it.
 	ErrNothingYet Code = C.H26X_NOTHING_YET
@@ -125,6 +126,37 @@ const (
 	ErrSDPShortConstraints Code = C.H26X_SDP_SHORT_CONSTRAINTS
 	// ErrSDPLongConstraints: H.266: bytes stand behind them.
 	ErrSDPLongConstraints Code = C.H26X_SDP_LONG_CONSTRAINTS
+)
+
+// Why bytes are no RTP packet (RFC 3550, 5.1), no retransmission (RFC 4588, 4) and no redundant payload (RFC 2198, 3), and
+// why a packet isn't written.
+const (
+	// ErrRTPTooShort: they are fewer than the 12 that every header has.
+	ErrRTPTooShort Code = C.H26X_RTP_TOO_SHORT
+	// ErrRTPOtherVersion: the version isn't 2.
+	ErrRTPOtherVersion Code = C.H26X_RTP_OTHER_VERSION
+	// ErrRTPCSRCsPastTheEnd: CSRCs pass the end.
+	ErrRTPCSRCsPastTheEnd Code = C.H26X_RTP_CSRCS_PAST_THE_END
+	// ErrRTPExtensionPastTheEnd: the header extension passes the end.
+	ErrRTPExtensionPastTheEnd Code = C.H26X_RTP_EXTENSION_PAST_THE_END
+	// ErrRTPPaddingOfZero: P is set, and the last byte says that 0 bytes are padding.
+	ErrRTPPaddingOfZero Code = C.H26X_RTP_PADDING_OF_ZERO
+	// ErrRTPPaddingTooLong: the padding is longer than what stands behind the header.
+	ErrRTPPaddingTooLong Code = C.H26X_RTP_PADDING_TOO_LONG
+	// ErrRTPPayloadType: the payload type is above 127.
+	ErrRTPPayloadType Code = C.H26X_RTP_PAYLOAD_TYPE
+	// ErrRTPCSRCs: the CSRCs aren't whole, four bytes each, or more than 15.
+	ErrRTPCSRCs Code = C.H26X_RTP_CSRCS
+	// ErrRTPExtension: the extension isn't of whole words of four bytes, or has over 65,535.
+	ErrRTPExtension Code = C.H26X_RTP_EXTENSION
+	// ErrRTPPadding: the last byte of the padding isn't its length.
+	ErrRTPPadding Code = C.H26X_RTP_PADDING
+	// ErrRTXNoOriginal: a retransmission has under two bytes of payload: it is padding, or a probe.
+	ErrRTXNoOriginal Code = C.H26X_RTX_NO_ORIGINAL
+	// ErrREDHeadersPastTheEnd: no header of a block has F clear.
+	ErrREDHeadersPastTheEnd Code = C.H26X_RED_HEADERS_PAST_THE_END
+	// ErrREDBlocksPastTheEnd: blocks are longer than what stands behind the headers.
+	ErrREDBlocksPastTheEnd Code = C.H26X_RED_BLOCKS_PAST_THE_END
 )
 
 // Error is the code in the library's words.

@@ -76,19 +76,35 @@ func (f *FormatParameters) Close() error {
 func (f *FormatParameters) Codec() Codec { return f.codec }
 
 // Answer is the answer to an offered format by one of ours. Its errors are ErrSDPNoAnswer where they have no
-// configuration in common, as of two codecs, where the standard has no such profile or level, and where the RFC forbids
-// ours, as a max-fs below the level's; ErrOutOfMemory and ErrClosed.
+// configuration in common, as of two codecs, where the standard has no such profile or level, where the RFC forbids ours,
+// as a max-fs below the level's, and where units may be sent in another order than decoded (packetization-mode 2,
+// sprop-max-don-diff above 0); ErrOutOfMemory and ErrClosed.
 //
 // To answer an offer, go through its formats in their order and for each through ours in our order of preference: the
 // first that is made is the answer, with the payload type of the offered format (RFC 3264, 6.1). It is for both
 // directions, and for unicast (RFC 6184, 8.2.2; RFC 7798, 7.2.2; RFC 9328, 7.3.2).
 func (f *FormatParameters) Answer(ours *FormatParameters) (*FormatParameters, error) {
+	return f.answer(ours, func(offered, ours, made *C.h26x_sdp) C.uint32_t {
+		return C.h26x_sdp_answer(offered, ours, made)
+	})
+}
+
+// AnswerAnyOrder is the Answer of an end that takes units in any order: that reads STAP-B, MTAP and FU-B of H.264, which a
+// Depacketizer doesn't, and puts units in order by their decoding order numbers.
+func (f *FormatParameters) AnswerAnyOrder(ours *FormatParameters) (*FormatParameters, error) {
+	return f.answer(ours, func(offered, ours, made *C.h26x_sdp) C.uint32_t {
+		return C.h26x_sdp_answer_any_order(offered, ours, made)
+	})
+}
+
+func (f *FormatParameters) answer(ours *FormatParameters,
+	by func(offered, ours, made *C.h26x_sdp) C.uint32_t) (*FormatParameters, error) {
 	defer lockBoth(&f.mu, &ours.mu)()
 	if f.call == nil || ours.call == nil {
 		return nil, ErrClosed
 	}
 	call := new(format)
-	return call.made(refusedBy(C.h26x_sdp_answer(&f.call.handle, &ours.call.handle, &call.handle)))
+	return call.made(refusedBy(by(&f.call.handle, &ours.call.handle, &call.handle)))
 }
 
 // Text is what stands behind the payload type in an a=fmtp line: the parameters of the RFC in its order, and the others

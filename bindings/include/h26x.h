@@ -3,7 +3,8 @@
  *
  * A packetizer cuts units of coded video into the payloads of RTP packets, each within a limit. A depacketizer
  * writes the units of such payloads again, and a receiver does where packets are given with their sequence numbers,
- * and some of them may be missing. RTP's own header is the caller's. Format parameters of SDP are read and answered.
+ * and some of them may be missing. RTP's own header, RTX and some of RTCP are read and written, and RED is read. Format
+ * parameters of SDP are read and answered.
  *
  * A handle is a struct of one pointer. No call keeps a pointer that it is given, waits, prints, or has state beside
  * its handle; memory comes from malloc, realloc and free. A handle may go from one thread to another.
@@ -13,9 +14,10 @@
  *
  * What may be NULL: a buffer, which then has length 0 whatever is said to be its length or its room; the pointer to
  * what isn't wanted (count, size, written, extra, received, pushed, behind, unit, counts, at, why, number, len, begin,
- * end, profile, level, name_len, value_len, said, payload_type, codec, and the value of a number); and the pointer in a
- * handle that is freed, which is then no handle: so set it to {0} and free it in any case. The calls whose names end in
- * _close free a handle and write NULL into it; they are functions of this header over _free, and no exports.
+ * end, profile, level, name_len, value_len, said, payload_type, codec, place, sender, media, the value of a number, and an
+ * RTP packet or a report that is told); and the pointer in a handle that is freed, which is then no handle: so
+ * set it to {0} and free it in any case. The calls whose names end in _close free a handle and write NULL into it; they
+ * are functions of this header over _free, and no exports.
  *
  * What a caller owes, since nothing checks it:
  * - a handle is one that a _new or _clone wrote, and was not freed since;
@@ -140,7 +142,24 @@ enum h26x_code {
     H26X_SDP_NO_LIMIT = 45,           /**< a point has none of the five limits */
     H26X_SDP_CONSTRAINTS_NOT_BASE64 = 46, /**< H.266 */
     H26X_SDP_SHORT_CONSTRAINTS = 47,  /**< they end before they say all */
-    H26X_SDP_LONG_CONSTRAINTS = 48    /**< bytes stand behind them */
+    H26X_SDP_LONG_CONSTRAINTS = 48,   /**< bytes stand behind them */
+    /* Why bytes are no RTP packet: the first fault from the left. */
+    H26X_RTP_TOO_SHORT = 50,          /**< fewer than the 12 bytes that every header has */
+    H26X_RTP_OTHER_VERSION = 51,      /**< its version isn't 2 */
+    H26X_RTP_CSRCS_PAST_THE_END = 52,
+    H26X_RTP_EXTENSION_PAST_THE_END = 53,
+    H26X_RTP_PADDING_OF_ZERO = 54,    /**< P is set, and the last byte says that 0 bytes are padding */
+    H26X_RTP_PADDING_TOO_LONG = 55,   /**< the padding is longer than what stands behind the header */
+    /* Why an RTP packet isn't written: the first of its parts that has no place in one. */
+    H26X_RTP_PAYLOAD_TYPE = 56,       /**< it is above 127 */
+    H26X_RTP_CSRCS = 57,              /**< CSRCs that aren't whole, four bytes each, or more than 15 */
+    H26X_RTP_EXTENSION = 58,          /**< an extension that isn't of whole words of four bytes, or has over 65,535 */
+    H26X_RTP_PADDING = 59,            /**< padding whose last byte isn't its length */
+    /* Of reading what a packet bears. */
+    H26X_RTX_NO_ORIGINAL = 60,        /**< a retransmission of under two bytes of payload: padding, or a probe */
+    /* Why bytes are no redundant payload: the first fault from the left. */
+    H26X_RED_HEADERS_PAST_THE_END = 61, /**< no header of a block has F clear */
+    H26X_RED_BLOCKS_PAST_THE_END = 62 /**< blocks are longer than what stands behind the headers */
 };
 
 /** A code in words, without a full stop; never NULL. */
@@ -843,6 +862,163 @@ enum h26x_h266_level {
  * format says nothing they are H26X_H266_MAIN_10, 0 and H26X_H266_LEVEL_3_1. */
 H26X_API bool h26x_h266_is_known(uint8_t profile_id, uint8_t tier_flag, uint8_t level_id);
 
+/* ---- What stands round payloads: RTP's header, RTX, RED and RTCP ---- */
+
+/* None of these calls takes memory, and all read any bytes. Encrypted packets (SRTP) are read as any others: only their
+ * headers make sense. */
+
+/** Whether a datagram is RTCP and not RTP, where both share a port (RFC 5761, 4): ask this before h26x_rtp_read. So no
+ * payload type of the session may be one from 64 to 95. */
+H26X_API bool h26x_is_rtcp(const uint8_t *datagram, size_t datagram_len);
+
+/** What the header of an RTP packet says (RFC 3550, 5.1). */
+typedef struct {
+    uint32_t timestamp;   /**< the same for all packets of an access unit */
+    uint32_t ssrc;        /**< who sends it */
+    uint16_t sequence;    /**< goes on by one a packet, and from 65535 to 0 */
+    uint16_t profile;     /**< of a header extension the 16 bits before its length, else 0 */
+    uint8_t payload_type; /**< below 128 */
+    bool marker;          /**< M: it is the last packet of an access unit */
+    bool has_extension;   /**< X */
+} h26x_rtp_header;
+
+/** An RTP packet in a datagram (RFC 3550, 5.1); lengths and places are in bytes, places from the datagram's front. */
+typedef struct {
+    h26x_rtp_header header; /**< what its header says */
+    size_t csrcs_len;     /**< four bytes each; they begin at 12 */
+    size_t extension_len; /**< whole words of four bytes; they begin at 16 + csrcs_len (5.3.1) */
+    size_t payload;       /**< where the payload begins */
+    size_t payload_len;   /**< 0 in a packet of padding alone, whose number is one to be skipped */
+    size_t padding_len;   /**< what stands behind the payload; 0 where P is clear */
+} h26x_rtp_packet;
+
+/** Reads an RTP packet, or says why the bytes are none: one of the codes from H26X_RTP_TOO_SHORT to
+ * H26X_RTP_PADDING_TOO_LONG, which leave *packet (RFC 3550, 5.1). */
+H26X_API uint32_t h26x_rtp_read(const uint8_t *datagram, size_t datagram_len, h26x_rtp_packet *packet) H26X_MUST_USE;
+
+/** The packet that a retransmission packet bears, of the payload type and the SSRC of its stream, told as they are given
+ * (RTX; RFC 4588, 4): its payload lies in the same datagram, and it has no padding. The codes of h26x_rtp_read, or
+ * H26X_RTX_NO_ORIGINAL; all leave *packet. */
+H26X_API uint32_t h26x_rtp_original(const uint8_t *datagram, size_t datagram_len, uint8_t payload_type, uint32_t ssrc,
+                                    h26x_rtp_packet *packet) H26X_MUST_USE;
+
+/** Writes an RTP packet to the front of `to`; *len is how many bytes it has (RFC 3550, 5.1). Padding is its bytes, of which
+ * the last says how many they are. Where the header has no extension, that isn't looked at. The first that holds of
+ * H26X_RTP_PAYLOAD_TYPE, H26X_RTP_CSRCS, H26X_RTP_EXTENSION, H26X_RTP_PADDING and H26X_NO_ROOM, which tells *len;
+ * all leave `to`, and the others *len. */
+H26X_API uint32_t h26x_rtp_write(const h26x_rtp_header *header, const uint8_t *csrcs, size_t csrcs_len,
+                                 const uint8_t *extension, size_t extension_len, const uint8_t *payload, size_t payload_len,
+                                 const uint8_t *padding, size_t padding_len, uint8_t *to, size_t room,
+                                 size_t *len) H26X_MUST_USE;
+
+/** Writes a header into `to` so that it ends at `place`, where a payload begins: in the headroom of a packet of
+ * h26x_packetize_units_into; *len is how many bytes it has (RFC 3550, 5.1). `padded` is P: whether the packet ends in
+ * padding. H26X_RTP_PAYLOAD_TYPE, H26X_RTP_CSRCS, H26X_RTP_EXTENSION, or H26X_NO_ROOM where `place` is below *len,
+ * which is told, or above `room`; all leave `to`, and the others *len. */
+H26X_API uint32_t h26x_rtp_write_before(const h26x_rtp_header *header, const uint8_t *csrcs, size_t csrcs_len,
+                                        const uint8_t *extension, size_t extension_len, bool padded, size_t place,
+                                        uint8_t *to, size_t room, size_t *len) H26X_MUST_USE;
+
+/** Writes the retransmission packet of a packet, with a payload type, a sequence number and an SSRC of its own, to the front
+ * of `to`; *len is how many bytes it has (RTX; RFC 4588, 4). Padding is left out. The codes of h26x_rtp_read;
+ * H26X_RTP_PAYLOAD_TYPE; H26X_NO_ROOM, which tells *len; all leave `to`, and the others *len. */
+H26X_API uint32_t h26x_rtx_write(const uint8_t *datagram, size_t datagram_len, uint8_t payload_type, uint16_t sequence,
+                                 uint32_t ssrc, uint8_t *to, size_t room, size_t *len) H26X_MUST_USE;
+
+/** The primary block of a redundant payload (RED; RFC 2198, 3): its payload type, which may be that of FEC (RFC 5109, 14.2),
+ * and where it begins; it ends with the payload. To write one of a primary block alone, put a byte, its payload type,
+ * before it. H26X_RED_HEADERS_PAST_THE_END, H26X_RED_BLOCKS_PAST_THE_END; both leave *payload_type and *place. */
+H26X_API uint32_t h26x_red_primary(const uint8_t *payload, size_t payload_len, uint8_t *payload_type,
+                                   size_t *place) H26X_MUST_USE;
+
+/** Writes a picture loss indication, which asks for a keyframe, to the front of `to`; *len is 12 (PLI; RFC 4585, 6.3.1).
+ * `sender` is one's own SSRC, `media` that of which a picture is lost. H26X_NO_ROOM tells *len and leaves `to`; so of
+ * the others here. Of several RTCP packets each goes behind the one before. Those that are read here have no padding. */
+H26X_API uint32_t h26x_pli_write(uint32_t sender, uint32_t media, uint8_t *to, size_t room, size_t *len) H26X_MUST_USE;
+
+/** Whether bytes are a picture loss indication, an RTCP packet alone, and what it says; *sender and *media are left where
+ * they aren't. */
+H26X_API bool h26x_pli_read(const uint8_t *packet, size_t packet_len, uint32_t *sender, uint32_t *media);
+
+/** Writes a full intra request of one source; *len is 20 (FIR; RFC 5104, 4.3.1). `number` is one more, modulo 256, with each
+ * request, and the same where one is sent again. */
+H26X_API uint32_t h26x_fir_write(uint32_t sender, uint32_t media, uint8_t number, uint8_t *to, size_t room,
+                                 size_t *len) H26X_MUST_USE;
+
+/** Whether bytes are a full intra request of one source, an RTCP packet alone, and what it says; all three are left where
+ * they aren't. */
+H26X_API bool h26x_fir_read(const uint8_t *packet, size_t packet_len, uint32_t *sender, uint32_t *media, uint8_t *number);
+
+/** What a receiver reports of a source (RFC 3550, 6.4.1). */
+typedef struct {
+    uint32_t ssrc;               /**< the source */
+    int32_t lost;                /**< packets lost: -2^23 to 2^23 - 1, below 0 where more came than were expected */
+    uint32_t highest;            /**< the highest number that came, extended by how often numbers went round */
+    uint32_t jitter;             /**< in ticks of the timestamps' clock */
+    uint32_t last_sender_report; /**< the middle 32 bits of the NTP timestamp of the last one; 0 where none came */
+    uint32_t delay;              /**< how long ago that came, in 65536ths of a second; 0 where none came */
+    uint8_t fraction_lost;       /**< of the packets since the last report, in 256ths */
+} h26x_report;
+
+/** Writes a receiver report of one source; *len is 32 (RFC 3550, 6.4.2). What is lost is written in 24 bits, as near as
+ * these come. */
+H26X_API uint32_t h26x_receiver_report_write(uint32_t sender, const h26x_report *report, uint8_t *to, size_t room,
+                                             size_t *len) H26X_MUST_USE;
+
+/** Whether bytes are a receiver report of one source, an RTCP packet alone, and what it says; both are left where they
+ * aren't. */
+H26X_API bool h26x_receiver_report_read(const uint8_t *packet, size_t packet_len, uint32_t *sender, h26x_report *report);
+
+/** Writes a generic NACK, which asks for packets again by their sequence numbers, to the front of `to`, for as many of the
+ * first ones as have room: *count of them, in *len bytes (RFC 4585, 6.2.1). Call it again with the rest, for a packet
+ * behind it. Give them in ascending order: one shares four bytes with those of the sixteen behind it. No numbers make no
+ * packet, and both are 0. H26X_NO_ROOM where there is no room for one pair: *len is 16, and `to` and *count are left. */
+H26X_API uint32_t h26x_nack_write(uint32_t sender, uint32_t media, const uint16_t *numbers, size_t numbers_len, uint8_t *to,
+                                  size_t room, size_t *len, size_t *count) H26X_MUST_USE;
+
+/** Whether bytes are a generic NACK, an RTCP packet alone, and what it says: *count is how many numbers it asks for, and the
+ * first ones go to the front of `numbers`, up to `numbers_room` of them; the rest of it is left. All are left where they
+ * aren't. */
+H26X_API bool h26x_nack_read(const uint8_t *packet, size_t packet_len, uint32_t *sender, uint32_t *media, uint16_t *numbers,
+                             size_t numbers_room, size_t *count);
+
+/** Whether an RTCP packet begins at a place of a datagram, which may be a compound of several, and *end where it ends (RFC
+ * 3550, 6.1): its version is 2, and all of it is there (A.2). Begin at 0, and go on at *end; *end is left where none
+ * does. The calls above read one such packet. */
+H26X_API bool h26x_rtcp_next(const uint8_t *datagram, size_t datagram_len, size_t from, size_t *end);
+
+/** What is counted of a source, an SSRC (RFC 3550, 6.4.1, A.1, A.3 and A.8): all 0 at first, as `= {0}` says; counts stay
+ * at 2^64 - 1. */
+typedef struct {
+    uint64_t expected;        /**< how many numbers there are from the first to the highest */
+    uint64_t received;        /**< packets that came since the source began, those that came twice as often as they came */
+    uint64_t bytes;           /**< of payloads, also before the source began anew */
+    uint64_t recovered;       /**< packets that came as retransmissions, which aren't among those received */
+    uint64_t jitter;          /**< sixteen times the interarrival jitter, in ticks of the timestamps' clock */
+    uint64_t expected_before; /**< expected at the last report */
+    uint64_t received_before; /**< received at the last report */
+    uint32_t transit;         /**< the transit time of the last packet, where has_transit */
+    uint16_t base;            /**< the number of the first packet, or of that with which the source began anew */
+    uint16_t highest;         /**< the highest number */
+    uint16_t after_jump;      /**< the number with which the source begins anew, where has_jumped */
+    bool has_transit;         /**< a packet came since the source began */
+    bool has_jumped;          /**< a number jumped since the source began */
+} h26x_rtp_statistics;
+
+/** Counts a packet that came by its own SSRC, with so many bytes of payload; whether it counts: one whose number jumps does
+ * only where it follows the one that jumped last (RFC 3550, A.1). `arrival` is when it came, in ticks of the
+ * timestamps' clock, which go round at 2^32. */
+H26X_API bool h26x_rtp_statistics_receive(h26x_rtp_statistics *statistics, uint32_t arrival, uint16_t sequence,
+                                          uint32_t timestamp, size_t size);
+
+/** Counts a packet that came as a retransmission, or was restored. */
+H26X_API void h26x_rtp_statistics_recover(h26x_rtp_statistics *statistics);
+
+/** What is reported of the source, with the part that was lost since the last report (RFC 3550, 6.4.1 and A.3).
+ * `last_sender_report` and `delay` are 0 where no sender report came. */
+H26X_API void h26x_rtp_statistics_report(h26x_rtp_statistics *statistics, uint32_t ssrc, uint32_t last_sender_report,
+                                         uint32_t delay, h26x_report *report);
+
 /* ---- Format parameters of SDP ---- */
 
 /** What an a=fmtp line says behind the payload type (RFC 6184, 8.1; RFC 7798, 7.1; RFC 9328, 7.2). Names are those of the
@@ -864,8 +1040,13 @@ H26X_API uint32_t h26x_sdp_of_payload(uint32_t codec, const uint8_t *payload, si
  * H26X_WRONG_END. To answer an offer, go through its formats in their order and for each through ours in our order of
  * preference: the first that is made is the answer, with the payload type of the offered format (RFC 3264, 6.1). It is
  * for both directions, and for unicast (RFC 6184, 8.2.2; RFC 7798, 7.2.2; RFC 9328, 7.3.2). An offer of a profile or level
- * that the standard hasn't has none, nor has ours where its RFC forbids it, as a max-fs below the level's. */
+ * that the standard hasn't has none, nor has ours where its RFC forbids it, as a max-fs below the level's; nor have
+ * formats whose units may be sent in another order than decoded: packetization-mode 2, sprop-max-don-diff above 0. */
 H26X_API uint32_t h26x_sdp_answer(const h26x_sdp *offered, const h26x_sdp *ours, h26x_sdp *made) H26X_MUST_USE;
+
+/** The same of an end that takes units in any order: that reads STAP-B, MTAP and FU-B of H.264, which depacketizers don't,
+ * and puts units in order by their decoding order numbers. */
+H26X_API uint32_t h26x_sdp_answer_any_order(const h26x_sdp *offered, const h26x_sdp *ours, h26x_sdp *made) H26X_MUST_USE;
 
 /** Frees them. A handle of NULL is nothing to be freed. */
 H26X_API void h26x_sdp_free(h26x_sdp h);

@@ -46,6 +46,23 @@ PROVED(set_lowest_header);
 PROVED(next_unit);
 PROVED(unit_is_plain);
 PROVED(h264_profile_level);
+PROVED(is_rtcp);
+PROVED(rtp_read);
+PROVED(rtp_original);
+PROVED(rtp_write);
+PROVED(rtp_write_before);
+PROVED(rtx_write);
+PROVED(red_primary);
+PROVED(pli_write);
+PROVED(pli_read);
+PROVED(fir_write);
+PROVED(fir_read);
+PROVED(receiver_report_write);
+PROVED(receiver_report_read);
+PROVED(nack_write);
+PROVED(nack_read);
+PROVED(rtcp_next);
+PROVED(rtp_statistics_report);
 PROVED(sdp_read);
 PROVED(sdp_of_payload);
 PROVED(sdp_free);
@@ -391,6 +408,131 @@ bool h26x_h264_profile_level(uint32_t profile_level_id, uint8_t *profile, uint8_
     uint8_t unwanted[2];
     return proved_h264_profile_level(profile_level_id, WANTED(profile, &unwanted[0]),
                                      WANTED(level, &unwanted[1]));
+}
+
+/* ---- What stands round payloads ---- */
+
+bool h26x_is_rtcp(const uint8_t *datagram, size_t datagram_len)
+{
+    return proved_is_rtcp(BYTES(datagram, datagram_len));
+}
+
+uint32_t h26x_rtp_read(const uint8_t *datagram, size_t datagram_len, h26x_rtp_packet *packet)
+{
+    h26x_rtp_packet unwanted;
+    return proved_rtp_read(BYTES(datagram, datagram_len), WANTED(packet, &unwanted));
+}
+
+uint32_t h26x_rtp_original(const uint8_t *datagram, size_t datagram_len, uint8_t payload_type, uint32_t ssrc,
+                           h26x_rtp_packet *packet)
+{
+    h26x_rtp_packet unwanted;
+    return proved_rtp_original(BYTES(datagram, datagram_len), payload_type, ssrc, WANTED(packet, &unwanted));
+}
+
+uint32_t h26x_rtp_write(const h26x_rtp_header *header, const uint8_t *csrcs, size_t csrcs_len,
+                        const uint8_t *extension, size_t extension_len, const uint8_t *payload, size_t payload_len,
+                        const uint8_t *padding, size_t padding_len, uint8_t *to, size_t room, size_t *len)
+{
+    size_t unwanted;
+    return proved_rtp_write(header, BYTES(csrcs, csrcs_len), BYTES(extension, extension_len),
+                            BYTES(payload, payload_len), BYTES(padding, padding_len), BYTES(to, room),
+                            WANTED(len, &unwanted));
+}
+
+uint32_t h26x_rtp_write_before(const h26x_rtp_header *header, const uint8_t *csrcs, size_t csrcs_len,
+                               const uint8_t *extension, size_t extension_len, bool padded, size_t place, uint8_t *to,
+                               size_t room, size_t *len)
+{
+    size_t unwanted;
+    return proved_rtp_write_before(header, BYTES(csrcs, csrcs_len), BYTES(extension, extension_len), padded, place,
+                                   BYTES(to, room), WANTED(len, &unwanted));
+}
+
+uint32_t h26x_rtx_write(const uint8_t *datagram, size_t datagram_len, uint8_t payload_type, uint16_t sequence,
+                        uint32_t ssrc, uint8_t *to, size_t room, size_t *len)
+{
+    size_t unwanted;
+    return proved_rtx_write(BYTES(datagram, datagram_len), payload_type, sequence, ssrc, BYTES(to, room),
+                            WANTED(len, &unwanted));
+}
+
+uint32_t h26x_red_primary(const uint8_t *payload, size_t payload_len, uint8_t *payload_type, size_t *place)
+{
+    uint8_t unwanted_type;
+    size_t unwanted_place;
+    return proved_red_primary(BYTES(payload, payload_len), WANTED(payload_type, &unwanted_type),
+                              WANTED(place, &unwanted_place));
+}
+
+uint32_t h26x_pli_write(uint32_t sender, uint32_t media, uint8_t *to, size_t room, size_t *len)
+{
+    size_t unwanted;
+    return proved_pli_write(sender, media, BYTES(to, room), WANTED(len, &unwanted));
+}
+
+bool h26x_pli_read(const uint8_t *packet, size_t packet_len, uint32_t *sender, uint32_t *media)
+{
+    uint32_t unwanted[2];
+    return proved_pli_read(BYTES(packet, packet_len), WANTED(sender, &unwanted[0]), WANTED(media, &unwanted[1]));
+}
+
+uint32_t h26x_fir_write(uint32_t sender, uint32_t media, uint8_t number, uint8_t *to, size_t room, size_t *len)
+{
+    size_t unwanted;
+    return proved_fir_write(sender, media, number, BYTES(to, room), WANTED(len, &unwanted));
+}
+
+bool h26x_fir_read(const uint8_t *packet, size_t packet_len, uint32_t *sender, uint32_t *media, uint8_t *number)
+{
+    uint32_t unwanted[2];
+    uint8_t unwanted_number;
+    return proved_fir_read(BYTES(packet, packet_len), WANTED(sender, &unwanted[0]), WANTED(media, &unwanted[1]),
+                           WANTED(number, &unwanted_number));
+}
+
+uint32_t h26x_receiver_report_write(uint32_t sender, const h26x_report *report, uint8_t *to, size_t room, size_t *len)
+{
+    size_t unwanted;
+    return proved_receiver_report_write(sender, report, BYTES(to, room), WANTED(len, &unwanted));
+}
+
+bool h26x_receiver_report_read(const uint8_t *packet, size_t packet_len, uint32_t *sender, h26x_report *report)
+{
+    uint32_t unwanted_sender;
+    h26x_report unwanted;
+    return proved_receiver_report_read(BYTES(packet, packet_len), WANTED(sender, &unwanted_sender),
+                                       WANTED(report, &unwanted));
+}
+
+uint32_t h26x_nack_write(uint32_t sender, uint32_t media, const uint16_t *numbers, size_t numbers_len, uint8_t *to,
+                         size_t room, size_t *len, size_t *count)
+{
+    size_t unwanted[2];
+    return proved_nack_write(sender, media, NUMBERS(numbers, numbers_len), BYTES(to, room),
+                             WANTED(len, &unwanted[0]), WANTED(count, &unwanted[1]));
+}
+
+bool h26x_nack_read(const uint8_t *packet, size_t packet_len, uint32_t *sender, uint32_t *media, uint16_t *numbers,
+                    size_t numbers_room, size_t *count)
+{
+    uint32_t unwanted[2];
+    size_t unwanted_count;
+    return proved_nack_read(BYTES(packet, packet_len), WANTED(sender, &unwanted[0]), WANTED(media, &unwanted[1]),
+                            NUMBERS(numbers, numbers_room), WANTED(count, &unwanted_count));
+}
+
+bool h26x_rtcp_next(const uint8_t *datagram, size_t datagram_len, size_t from, size_t *end)
+{
+    size_t unwanted;
+    return proved_rtcp_next(BYTES(datagram, datagram_len), from, WANTED(end, &unwanted));
+}
+
+void h26x_rtp_statistics_report(h26x_rtp_statistics *statistics, uint32_t ssrc, uint32_t last_sender_report,
+                                uint32_t delay, h26x_report *report)
+{
+    h26x_report unwanted;
+    proved_rtp_statistics_report(statistics, ssrc, last_sender_report, delay, WANTED(report, &unwanted));
 }
 
 /* ---- Format parameters of SDP ---- */

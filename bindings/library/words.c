@@ -112,6 +112,32 @@ const char *h26x_strerror(uint32_t code)
         return "the constraints are too short";
     case H26X_SDP_LONG_CONSTRAINTS:
         return "bytes stand behind the constraints";
+    case H26X_RTP_TOO_SHORT:
+        return "the datagram is shorter than an RTP header";
+    case H26X_RTP_OTHER_VERSION:
+        return "the RTP version is not 2";
+    case H26X_RTP_CSRCS_PAST_THE_END:
+        return "CSRCs pass the end of the packet";
+    case H26X_RTP_EXTENSION_PAST_THE_END:
+        return "the header extension passes the end of the packet";
+    case H26X_RTP_PADDING_OF_ZERO:
+        return "the padding has 0 bytes";
+    case H26X_RTP_PADDING_TOO_LONG:
+        return "the padding is longer than what is left of the packet";
+    case H26X_RTP_PAYLOAD_TYPE:
+        return "the payload type is above 127";
+    case H26X_RTP_CSRCS:
+        return "the CSRCs are not whole, or more than 15";
+    case H26X_RTP_EXTENSION:
+        return "the header extension has no whole words, or more than 65535";
+    case H26X_RTP_PADDING:
+        return "the last byte of the padding is not its length";
+    case H26X_RTX_NO_ORIGINAL:
+        return "the retransmission packet bears no original";
+    case H26X_RED_HEADERS_PAST_THE_END:
+        return "headers of redundant blocks pass the end of the payload";
+    case H26X_RED_BLOCKS_PAST_THE_END:
+        return "redundant blocks pass the end of the payload";
     default:
         return "unknown code";
     }

@@ -3,12 +3,12 @@
 | In Rattle | In Rust | Reason |
 |---|---|---|
 | `#[unsafe(no_mangle)] pub extern "C" fn h26x_x(..)` | `pub fn h26x_x(..)` of the same body; in a module `exports` of the crate a function of C's form that calls it | the body stays safe, and all that C gives is taken in one file |
-| `x: &[u8]` of an export | `x: *const u8, x_len: usize`, then `bytes(x, x_len)` | NULL has length 0 |
+| `x: &[u8]`, `x: &[u16]` of an export | `x: *const u8, x_len: usize`, then `items(x, x_len)` | NULL has length 0 |
 | `to: &mut [u8]`, `name_to: &mut [u8]`, `ends: &mut [usize]`, `numbers: &mut [u16]`, `points: &mut [PointNumbers]`, `packet: &mut [u8]` | the same, as `room`, `name_room`, `ends_room`, `numbers_room`, `points_room` and `packet_len`, then `room(..)` | as the header names them; a struct of `ENTRIES` is of numbers alone, so that any memory is one |
-| `x: &Config`, `x: &NackTimes` of an export | `x: *const Config`, then `shared(x)` | it is there |
+| `x: &Config` of an export, and the other types of `LOOKED_AT` | `x: *const Config`, then `shared(x)` | it is there |
 | `x: &mut usize`, and the other types of `OUTPUTS`, which nothing reads; of all functions of the crates that C reaches | `x: &mut MaybeUninit<usize>`, `*x = y` is `x.write(y)`; of an export `x: *mut usize`, then `output(x, ..)` | C leaves it uninitialised; NULL isn't wanted |
 | `extra: &mut u8` of an export, which it reads | `extra: *mut u8`, then `in_out(extra, ..)` | NULL is read as 0 |
-| `x: &mut Place`, `x: &mut Handle`, `x: &ConstHandle` | `x: *mut Place`, then `made(x)`; `x: *mut Handle`, then `lent(x)`; `x: *const ConstHandle`, then `shared(x)` | they are there |
+| `x: &mut Place`, `x: &mut Handle`, `x: &mut Statistics`, `x: &ConstHandle` | `x: *mut Place`, then `made(x)`; `x: *mut Handle`, then `lent(x)`; `x: *const ConstHandle`, then `shared(x)` | they are there |
 | `x: Handle` | by value; of NULL the call returns | it is nothing to be freed |
 | numbers and `bool` | the same | |
 | `Box::new(x)` that answers a `Result` | `try_box(x)` | std's isn't stable |
@@ -27,11 +27,13 @@ REACHED = {"h26x_codes", "h26x_sdp_handles", "h26x_handles", "h26x_endpoint", "h
 UNSAFE = {"h26x_c"}
 NUMBERS = {"u8", "u16", "u32", "u64", "usize"}
 # What a call writes for C. `Place` is where a handle is written.
-OUTPUTS = NUMBERS | {"Refusal", "Shown", "Place", "UnitTold", "Counts", "ConstraintNumbers"}
+OUTPUTS = NUMBERS | {"Refusal", "Shown", "Place", "UnitTold", "Counts", "ConstraintNumbers", "RtpPlaces", "Report"}
 # What C gives rows of to be written: numbers, and structs of nothing else.
 ENTRIES = {"u8", "u16", "usize", "PointNumbers"}
 # What a call only looks at: a handle, and what a caller sets.
-LOOKED_AT = {"ConstHandle", "Config", "NackTimes"}
+LOOKED_AT = {"ConstHandle", "Config", "NackTimes", "RtpFields", "Report"}
+# What a call reads and changes.
+LENT = {"Handle", "Statistics"}
 # What the header says is in and out: C gives a number there, and of no other output.
 IN_OUT = {"extra"}
 # Parameters that the header names otherwise.
@@ -193,7 +195,8 @@ class Exports:
         uses += ["use core::mem::MaybeUninit;"] if "MaybeUninit" in used else []
         kinds = {"ConstHandle": "const_handle", "Handle": "handle", "Place": "place", "Shown": "shown",
                  "Config": "access_units", "Counts": "access_units",
-                 "NackTimes": "access_units"}
+                 "NackTimes": "access_units", "RtpFields": "rtp", "RtpPlaces": "rtp", "Report": "rtcp",
+                 "Statistics": "rtcp"}
         uses += [f"pub use super::{file}::{kind};" for kind, file in kinds.items() if re.search(rf"\b{kind}\b", used)]
         below = {"Refusal": "h26x_codes::code", "UnitTold": "h26x_handles::access_units",
                  "ConstraintNumbers": "h26x_sdp_handles::sdp_values", "PointNumbers": "h26x_sdp_handles::sdp_values"}
@@ -206,7 +209,7 @@ class Exports:
         for name, kind in parameters(function):
             name = NAMES.get(name.lstrip("_"), name.lstrip("_"))
             items = re.fullmatch(r"& (mut )?\[(\w+)\]", kind)
-            items = items if items and items[2] in (ENTRIES if items[1] else {"u8"}) else None
+            items = items if items and items[2] in (ENTRIES if items[1] else {"u8", "u16"}) else None
             output = re.fullmatch(r"& mut (?:MaybeUninit < (\w+) >|(\w+))", kind)
             looked_at = re.fullmatch(r"& (\w+)", kind)
             if items and items[1]:
@@ -216,8 +219,8 @@ class Exports:
                 given.append(f"pointers::room({name}, {room})")
             elif items:
                 taken.append(f"{name}: *const {items[2]}, {name}_len: usize")
-                given.append(f"pointers::bytes({name}, {name}_len)")
-            elif output and (output[1] == "Place" or output[2] == "Handle"):
+                given.append(f"pointers::items({name}, {name}_len)")
+            elif output and (output[1] == "Place" or output[2] in LENT):
                 taken.append(f"{name}: *mut {output[1] or output[2]}")
                 given.append(f"pointers::{'made' if output[1] else 'lent'}({name})")
             elif looked_at and looked_at[1] in LOOKED_AT:

@@ -37,11 +37,12 @@ ADDED = {
     "H265Parameter": "PartialOrd Ord Hash", "H266Parameter": "PartialOrd Ord Hash",
     "LevelSets": "Clone PartialEq Eq Hash", "InteropConstraints": "Clone PartialEq Eq Hash",
     "Fault": "Hash", "ParametersError": "Hash", "UnitsError": "Hash", "RtpMapError": "Hash",
+    "RepairFormat": "Hash", "RepairMap": "Hash", "RtxFormat": "Hash", "RtxError": "Hash",
     "ConstraintsError": "Hash", "LevelSetsError": "Hash", "CapabilityPointsError": "Hash",
     "ParallelTool": "Hash", "CapabilityPoint": "Hash",
 }
 LISTED = {"H264Parameter", "H265Parameter", "H266Parameter"}
-GROWING = {"CodecExtra", "Fault"} | LISTED
+GROWING = {"CodecExtra", "Fault", "RepairFormat"} | LISTED
 
 # A field's type that is bytes, and what is shown of `it`.
 BYTES = [

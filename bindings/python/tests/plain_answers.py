@@ -139,8 +139,8 @@ def h264_is_allowed(own: Parameters) -> bool:
     return all(needed) if own.get("packetization-mode") == "2" else not any(needed + others)
 
 
-def h264_answer(offer: Parameters, own: Parameters) -> Optional[H264Answer]:
-    """What an answer of H.264 says, if there's one."""
+def h264_answer(offer: Parameters, own: Parameters, any_order: bool) -> Optional[H264Answer]:
+    """What an answer of H.264 says, if there's one: of units in decoding order, or in any."""
     theirs, ours = h264_bytes(offer), h264_bytes(own)
     low, high = h264_level(theirs), h264_level(ours)
     mode = own.get("packetization-mode", "0")
@@ -152,7 +152,7 @@ def h264_answer(offer: Parameters, own: Parameters) -> Optional[H264Answer]:
     for sender, receiver in ((offer, own), (own, offer)):
         told = "sprop-interleaving-depth" in sender and "sprop-deint-buf-req" in sender
         room = int(receiver.get("deint-buf-cap", "0"))
-        if mode == "2" and not (told and int(sender["sprop-deint-buf-req"]) <= room):
+        if mode == "2" and not (any_order and told and int(sender["sprop-deint-buf-req"]) <= room):
             return None
     asymmetric = all(it.get("level-asymmetry-allowed") == "1" for it in (offer, own))
     return H264Answer(high if asymmetric else min(low, high, key=ORDER.index), profile, asymmetric)
@@ -194,8 +194,9 @@ def h265_is_allowed(own: Parameters) -> bool:
     return int(own.get("sprop-max-don-diff", "0")) == 0 or min(held) > 0
 
 
-def h265_answer(offer: Parameters, own: Parameters) -> Optional[Tuple[int, int]]:
-    """The level of an answer of H.265 and the highest that it receives, if there's one."""
+def h265_answer(offer: Parameters, own: Parameters, any_order: bool) -> Optional[Tuple[int, int]]:
+    """The level of an answer of H.265 and the highest that it receives, if there's one: of units in
+    decoding order, or in any."""
     if not (h265_is_known(offer) and h265_is_allowed(own)):
         return None
     if h265_configuration(offer) != h265_configuration(own):
@@ -203,7 +204,8 @@ def h265_answer(offer: Parameters, own: Parameters) -> Optional[Tuple[int, int]]
     for sender, receiver in ((offer, own), (own, offer)):
         units, need = (int(sender.get(f"sprop-depack-buf-{it}", "0")) for it in ("nalus", "bytes"))
         room = int(receiver.get("depack-buf-cap", "4294967295"))
-        if int(sender.get("sprop-max-don-diff", "0")) and not (units > 0 and 0 < need <= room):
+        is_held = any_order and units > 0 and 0 < need <= room
+        if int(sender.get("sprop-max-don-diff", "0")) and not is_held:
             return None
     levels = [int(it.get("level-id", "93")) for it in (offer, own)]
     highest = [max(level, int(it.get("max-recv-level-id", "0"))) for level, it in zip(levels, (offer, own))]

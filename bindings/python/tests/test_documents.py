@@ -24,6 +24,8 @@ DOCUMENTED = (
     "look",
     "profile",
     "sdp",
+    "rtp",
+    "rtcp",
 )
 
 

@@ -64,13 +64,15 @@ def pair(draws: Draws, lot: random.Random) -> Tuple[Parameters, Parameters]:
     return offer, own
 
 
-def answered(codec: Codec, offer: Parameters, own: Parameters) -> Optional[FormatParameters]:
+def answered(
+    codec: Codec, offer: Parameters, own: Parameters, any_order: bool
+) -> Optional[FormatParameters]:
     """The library's answer."""
     offered, ours = (
         FormatParameters.read(codec, ";".join(f"{name}={value}" for name, value in it.items()))
         for it in (offer, own)
     )
-    return offered.answer(ours)
+    return offered.answer(ours, any_order=any_order)
 
 
 @pytest.mark.parametrize("seed", range(4))
@@ -78,14 +80,14 @@ def test_h264(seed: int) -> None:
     """Level, profile and asymmetry are those of the plain reading."""
     lot, answers = random.Random(seed), 0
     for _ in range(2000):
-        offer, own = pair(H264, lot)
-        answer, got = answered(Codec.H264, offer, own), None
+        (offer, own), any_order = pair(H264, lot), lot.randrange(2) == 1
+        answer, got = answered(Codec.H264, offer, own, any_order), None
         if answer is not None:
             said = bytes.fromhex(answer.value("profile-level-id") or "42000a")
             is_asymmetric = answer.value("level-asymmetry-allowed") == "1"
             got = H264Answer(h264_level(said) or "", h264_profile(said[0], said[1]), is_asymmetric)
             answers += 1
-        assert got == h264_answer(offer, own), (offer, own)
+        assert got == h264_answer(offer, own, any_order), (offer, own, any_order)
     assert answers > 100
 
 
@@ -94,11 +96,11 @@ def test_h265(seed: int) -> None:
     """The level and the highest that is received are those of the plain reading."""
     lot, answers = random.Random(seed), 0
     for _ in range(2000):
-        offer, own = pair(H265, lot)
-        answer, got = answered(Codec.H265, offer, own), None
+        (offer, own), any_order = pair(H265, lot), lot.randrange(2) == 1
+        answer, got = answered(Codec.H265, offer, own, any_order), None
         if answer is not None:
             level = answer.number("level-id", or_default=True) or 0
             got = (level, max(level, answer.number("max-recv-level-id") or 0))
             answers += 1
-        assert got == h265_answer(offer, own), (offer, own)
+        assert got == h265_answer(offer, own, any_order), (offer, own, any_order)
     assert answers > 100

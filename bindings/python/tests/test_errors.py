@@ -59,6 +59,19 @@ CODES = {
     46: h26x.SdpConstraintsNotBase64,
     47: h26x.SdpShortConstraints,
     48: h26x.SdpLongConstraints,
+    50: h26x.RtpTooShort,
+    51: h26x.RtpOtherVersion,
+    52: h26x.RtpCsrcsPastTheEnd,
+    53: h26x.RtpExtensionPastTheEnd,
+    54: h26x.RtpPaddingOfZero,
+    55: h26x.RtpPaddingTooLong,
+    56: h26x.RtpPayloadType,
+    57: h26x.RtpCsrcs,
+    58: h26x.RtpExtension,
+    59: h26x.RtpPadding,
+    60: h26x.RtxNoOriginal,
+    61: h26x.RedHeadersPastTheEnd,
+    62: h26x.RedBlocksPastTheEnd,
 }
 
 
@@ -81,6 +94,7 @@ def test_each_has_words_of_its_own() -> None:
     assert str(errors.error_of(2, 31)) == text
     assert str(errors.error_of(3, 5, 2)).endswith("(5 bytes, where 2 are left)")
     assert str(errors.error_of(13, 2, 12)).endswith("(2 packets, 12 bytes)")
+    assert str(errors.error_of(13, 0, 12)).endswith(" (12 bytes)")
     assert str(errors.error_of(20)) == "a brace is left open"
     assert str(errors.error_of(25, 2)) == "the parameter is given twice (parameter 2)"
     assert str(errors.error_of(29, 1)) == "the unit is no base64 (unit 1)"
@@ -100,9 +114,12 @@ def test_each_has_words_of_its_own() -> None:
         (h26x.RtpMapError, range(38, 41)),
         (h26x.CapabilityPointsError, range(41, 46)),
         (h26x.ConstraintsError, range(46, 49)),
+        (h26x.RtpError, range(50, 56)),
+        (h26x.RtpWriteError, range(56, 60)),
+        (h26x.RedError, range(61, 63)),
     ],
 )
-def test_errors_of_sdp(kind: Type[h26x.Error], codes: Sequence[int]) -> None:
+def test_errors_of_a_kind(kind: Type[h26x.Error], codes: Sequence[int]) -> None:
     assert [code for code in CODES if isinstance(errors.error_of(code), kind)] == list(codes)
     assert issubclass(kind, ValueError)
 

@@ -7,6 +7,7 @@ import sys
 from ctypes import (
     c_bool,
     c_char_p,
+    c_int32,
     c_size_t,
     c_uint8,
     c_uint16,
@@ -31,9 +32,11 @@ TYPES: Dict[str, Any] = {
     "uint16_t": c_uint16,
     "uint32_t": c_uint32,
     "uint64_t": c_uint64,
+    "int32_t": c_int32,
     "size_t": c_size_t,
     "const char *": c_char_p,
     "const uint8_t *": c_char_p,
+    "const uint16_t *": c_char_p,
     "uint8_t *": _library._BYTE,
     "uint16_t *": _library._SHORT,
     "uint32_t *": _library._WORD,
@@ -46,6 +49,12 @@ TYPES: Dict[str, Any] = {
     "h26x_access_unit *": _library._UNIT,
     "h26x_access_units_counts *": _library._COUNTS,
     "h26x_constraints *": _library._SAID,
+    "h26x_rtp_header": _library.RtpFields,
+    "const h26x_rtp_header *": _library._FIELDS,
+    "h26x_rtp_packet *": _library._PLACES,
+    "const h26x_report *": _library._REPORT,
+    "h26x_report *": _library._REPORT,
+    "h26x_rtp_statistics *": _library._STATISTICS,
 }
 
 #: A pointer to one number, or to as many as there is room for: told apart by the name.
@@ -61,6 +70,10 @@ STRUCTS: Dict[str, Any] = {
     "h26x_access_units_counts": _library.UnitsCounts,
     "h26x_constraints": _library.ConstraintsSaid,
     "h26x_capability_point": _library.PointNumbers,
+    "h26x_rtp_header": _library.RtpFields,
+    "h26x_rtp_packet": _library.RtpPlaces,
+    "h26x_report": _library.ReportGiven,
+    "h26x_rtp_statistics": _library.StatisticsKept,
 }
 
 HANDLES = (

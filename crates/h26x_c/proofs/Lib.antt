@@ -1,3 +1,4 @@
 pub mod LoanLemmas
 pub mod Passed
 pub mod SdpLemmas
+pub mod RtpLemmas

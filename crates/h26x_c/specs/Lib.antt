@@ -6,3 +6,5 @@ pub mod Owned
 pub mod Lent
 pub mod AccessUnits
 pub mod Endpoints
+pub mod Rtp
+pub mod Rtcp

@@ -10,6 +10,7 @@ use Rattle.h26x_fmtp.specs.declared.rtp_map.RtpMapError.{RtpMapError}
 use Rattle.h26x_codes.specs.Codes.{codec_with_number, ok, out_of_memory, unknown_codec, wrong_end, no_room}
 use Rattle.h26x_codes.specs.Copies.{with_front, with_first}
 use Rattle.h26x_sdp_handles.specs.SdpCodes.{absent, no_payload_type, refused_with, point_refused_with, rtp_map_code, codec_number, encoding_codec, codec_encoding}
+use Rattle.h26x_answers.specs.declared.answer.AnswerConfig.{AnswerConfig}
 use Rattle.h26x_sdp_handles.specs.Sdp.{sdp_codec, sdp_answer, sdp_units, sdp_others}
 use Rattle.h26x_sdp_handles.specs.SdpValues.{sdp_points, constraints_bytes, constraint_numbers}
 use Rattle.h26x_sdp_handles.specs.declared.sdp_code.PointRefused.{PointRefused}
@@ -66,9 +67,9 @@ IsMade (Ok it) code made = ((code ≡ ok) × (made ≡ Some (e.Sdp it))) ⊎ (co
 IsMade (Err it) code made = (code ≡ it) ⊎ (code ≡ out_of_memory)
 
 -- the answer of one handle to another
-abbrev pub endpoint_answer : Endpoint → Endpoint → Result SdpEndpoint ℕ
-endpoint_answer (e.Sdp offered) (e.Sdp ours) = sdp_answer offered ours
-endpoint_answer offered ours = Err wrong_end
+abbrev pub endpoint_answer : AnswerConfig → Endpoint → Endpoint → Result SdpEndpoint ℕ
+endpoint_answer config (e.Sdp offered) (e.Sdp ours) = sdp_answer config offered ours
+endpoint_answer config offered ours = Err wrong_end
 
 -- the units of the parameter with a name, or why there are none
 abbrev pub endpoint_sdp_units : Endpoint → List ℕ → Result (List (List ℕ)) Refused

@@ -15,6 +15,8 @@ mod packets;
 mod place;
 mod profiles;
 mod receiving;
+mod rtcp;
+mod rtp;
 mod rtp_map;
 mod sdp;
 mod sending;

@@ -1,6 +1,6 @@
 //! The calls on format parameters of SDP.
 
-ghost use Rattle.std.specs.Prelude.{◌≡◌, ◌≢◌, ◌⊎◌, ◌&&◌, ℕ, List, false, Some, None, Ok, Err, length};
+ghost use Rattle.std.specs.Prelude.{◌≡◌, ◌≢◌, ◌⊎◌, ◌&&◌, ℕ, List, true, false, Some, None, Ok, Err, length};
 ghost use Rattle.h26x_model.specs.Where.{Where};
 ghost use Rattle.h26x_codec.specs.declared.codec.Codec.{Codec};
 ghost use Rattle.h26x_fmtp.specs.Pairs.{Pair};
@@ -17,6 +17,7 @@ use crate::const_handle::ConstHandle;
 use crate::copied::copy_out;
 use crate::handle::Handle;
 use crate::place::{Place, put};
+use h26x_answers::AnswerConfig;
 use h26x_codes::code::{NO_ROOM, OK, OUT_OF_MEMORY, Refusal, UNKNOWN_CODEC, WRONG_END, codec_of};
 use h26x_codes::copy::{copy_first, copy_where_room};
 use h26x_endpoint::endpoint::Endpoint;
@@ -100,7 +101,30 @@ pub extern "C" fn h26x_sdp_of_payload(
     }
 }
 
-/// Makes the answer to an offered format by one of ours.
+/// Makes the answer to an offered format by one of ours, of what the answerer takes.
+fn answered(
+    alloc: Global,
+    config: AnswerConfig,
+    offered: &ConstHandle,
+    ours: &ConstHandle,
+    made: &mut Place,
+) -> u32
+    ensures wrong { (is_sdp offered.now.value && is_sdp ours.now.value) ≡ false →
+        result ≡ wrong_end }
+    ensures answer { IsMade (endpoint_answer config offered.now.value ours.now.value) result
+        made.new.value }
+    ensures kept { result ≢ ok → made.new ≡ made.old }
+{
+    let (Endpoint::Sdp(offered), Endpoint::Sdp(ours)) = (offered.get(), ours.get()) else {
+        return WRONG_END;
+    };
+    match offered.answer(alloc, config, ours) {
+        Ok(it) => put(alloc, Endpoint::Sdp(it), made),
+        Err(code) => code,
+    }
+}
+
+/// Makes the answer to an offered format by one of ours, whose units are sent as they are decoded.
 #[unsafe(no_mangle)]
 pub extern "C" fn h26x_sdp_answer(
     alloc: Global,
@@ -110,17 +134,34 @@ pub extern "C" fn h26x_sdp_answer(
 ) -> u32
     ensures wrong { (is_sdp offered.now.value && is_sdp ours.now.value) ≡ false →
         result ≡ wrong_end }
-    ensures answer { IsMade (endpoint_answer offered.now.value ours.now.value) result
-        made.new.value }
+    ensures answer { IsMade (endpoint_answer (record { any_order = false }) offered.now.value
+        ours.now.value) result made.new.value }
     ensures kept { result ≢ ok → made.new ≡ made.old }
 {
-    let (Endpoint::Sdp(offered), Endpoint::Sdp(ours)) = (offered.get(), ours.get()) else {
-        return WRONG_END;
-    };
-    match offered.answer(alloc, ours) {
-        Ok(it) => put(alloc, Endpoint::Sdp(it), made),
-        Err(code) => code,
-    }
+    answered(
+        alloc,
+        AnswerConfig { any_order: false },
+        offered,
+        ours,
+        made,
+    )
+}
+
+/// The same of units in any order.
+#[unsafe(no_mangle)]
+pub extern "C" fn h26x_sdp_answer_any_order(
+    alloc: Global,
+    offered: &ConstHandle,
+    ours: &ConstHandle,
+    made: &mut Place,
+) -> u32
+    ensures wrong { (is_sdp offered.now.value && is_sdp ours.now.value) ≡ false →
+        result ≡ wrong_end }
+    ensures answer { IsMade (endpoint_answer (record { any_order = true }) offered.now.value
+        ours.now.value) result made.new.value }
+    ensures kept { result ≢ ok → made.new ≡ made.old }
+{
+    answered(alloc, AnswerConfig { any_order: true }, offered, ours, made)
 }
 
 /// Frees format parameters.

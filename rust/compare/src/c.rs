@@ -376,6 +376,14 @@ impl End {
         })
         .ok()
     }
+
+    /// The same of units in any order.
+    pub fn answer_any_order(&self, ours: &End) -> Option<End> {
+        made(self.free, |raw| unsafe {
+            h26x_sdp_answer_any_order(&self.raw, &ours.raw, raw)
+        })
+        .ok()
+    }
 }
 
 // SAFETY, of each: the pointer and the length are those of one slice.

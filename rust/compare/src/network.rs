@@ -220,8 +220,11 @@ fn answers<P: Parameter>(codec: Codec, texts: &[String; 2], ours: &mut Log, thei
         );
     }
     if let [Ok(offered), Ok(own)] = &read {
-        let answer = offered.answer(std::slice::from_ref(own)).expect("memory");
-        ours.say("answer", answer.map(|it| it.to_string()));
+        let by = std::slice::from_ref(own);
+        let answers = [offered.answer(by), offered.answer_any_order(by)];
+        for answer in answers {
+            ours.say("answer", answer.expect("memory").map(|it| it.to_string()));
+        }
     }
     beside! {
         let read = texts.each_ref().map(|text| c::sdp(number(codec), text.as_bytes()));
@@ -229,7 +232,9 @@ fn answers<P: Parameter>(codec: Codec, texts: &[String; 2], ours: &mut Log, thei
             theirs.say("format", it.as_ref().map(c::End::text).map_err(|it| *it));
         }
         if let [Ok(offered), Ok(own)] = &read {
-            theirs.say("answer", offered.answer(own).map(|it| it.text()));
+            for answer in [offered.answer(own), offered.answer_any_order(own)] {
+                theirs.say("answer", answer.map(|it| it.text()));
+            }
         }
     }
     let _ = (codec, theirs);

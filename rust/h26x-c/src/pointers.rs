@@ -7,13 +7,13 @@ use core::alloc::Layout;
 use core::mem::MaybeUninit;
 use core::slice;
 
-/// The bytes at a pointer; NULL has none, whatever `len` says.
+/// The bytes or numbers at a pointer; NULL has none, whatever `len` says.
 ///
 /// # Safety
 ///
 /// Behind a pointer that isn't NULL are so many, and nobody writes them while `'a` lasts.
 #[inline]
-pub unsafe fn bytes<'a>(at: *const u8, len: usize) -> &'a [u8] {
+pub unsafe fn items<'a, T>(at: *const T, len: usize) -> &'a [T] {
     if at.is_null() {
         return &[];
     }

@@ -56,7 +56,7 @@ fn cases(function: &str) -> Vec<(Option<&'static str>, Option<String>)> {
 #[test]
 fn words_of_codes() {
     let cases = cases("*h26x_strerror");
-    assert_eq!(cases.len(), 48);
+    assert_eq!(cases.len(), 61);
     for (name, answer) in cases {
         assert_eq!(
             text(h26x_strerror(name.map_or(49, number))),
@@ -240,6 +240,67 @@ fn structs_of_the_header() {
         (52, 53)
     );
     assert_eq!(size_of::<PointNumbers>(), 56);
+}
+
+#[test]
+fn structs_of_datagrams() {
+    let word = size_of::<usize>();
+    let fields = [
+        offset_of!(RtpFields, timestamp),
+        offset_of!(RtpFields, ssrc),
+        offset_of!(RtpFields, sequence),
+        offset_of!(RtpFields, profile),
+        offset_of!(RtpFields, payload_type),
+        offset_of!(RtpFields, marker),
+        offset_of!(RtpFields, has_extension),
+        size_of::<RtpFields>(),
+    ];
+    assert_eq!(fields, [0, 4, 8, 10, 12, 13, 14, 16]);
+    let places = [
+        offset_of!(RtpPlaces, header),
+        offset_of!(RtpPlaces, csrcs_len),
+        offset_of!(RtpPlaces, extension_len),
+        offset_of!(RtpPlaces, payload),
+        offset_of!(RtpPlaces, payload_len),
+        offset_of!(RtpPlaces, padding_len),
+        size_of::<RtpPlaces>(),
+    ];
+    assert_eq!(
+        places,
+        [
+            0,
+            16,
+            16 + word,
+            16 + 2 * word,
+            16 + 3 * word,
+            16 + 4 * word,
+            16 + 5 * word
+        ]
+    );
+    let report = [
+        offset_of!(Report, ssrc),
+        offset_of!(Report, lost),
+        offset_of!(Report, highest),
+        offset_of!(Report, jitter),
+        offset_of!(Report, last_sender_report),
+        offset_of!(Report, delay),
+        offset_of!(Report, fraction_lost),
+        size_of::<Report>(),
+    ];
+    assert_eq!(report, [0, 4, 8, 12, 16, 20, 24, 28]);
+    let statistics = [
+        offset_of!(Statistics, expected),
+        offset_of!(Statistics, received_before),
+        offset_of!(Statistics, transit),
+        offset_of!(Statistics, base),
+        offset_of!(Statistics, highest),
+        offset_of!(Statistics, after_jump),
+        offset_of!(Statistics, has_transit),
+        offset_of!(Statistics, has_jumped),
+    ];
+    assert_eq!(statistics, [0, 48, 56, 60, 62, 64, 66, 67]);
+    let long = align_of::<u64>();
+    assert_eq!(size_of::<Statistics>(), 68usize.next_multiple_of(long));
 }
 
 /// NULL is a buffer of length 0, whatever length is said, an output that isn't wanted, and nothing to be freed.

@@ -2,8 +2,9 @@
 
 A Packetizer cuts encoded video into RTP payloads within a limit. A Depacketizer puts the units
 together again, a Receiver does where packets come with their sequence numbers and some may be missing,
-and an AccessUnitReceiver gives out access units of packets that come in any order. RTP's own header is
-the caller's. FormatParameters are those of SDP, read and answered.
+and an AccessUnitReceiver gives out access units of packets that come in any order. RTP's own header, RTX
+and some of RTCP are read and written, and RED is read (RtpDatagram, RtpHeader). FormatParameters are those of SDP, read and
+answered.
 
 >>> frame = bytes.fromhex("00000001 6742c01f 00000001 68ce 00000001 658884")  # SPS, PPS, IDR slice
 >>> with Packetizer(Codec.H264) as packetizer:
@@ -55,7 +56,23 @@ from .errors import (
     OutOfRange,
     PacketError,
     ParametersError,
+    RedBlocksPastTheEnd,
+    RedError,
+    RedHeadersPastTheEnd,
+    RtpCsrcs,
+    RtpCsrcsPastTheEnd,
+    RtpError,
+    RtpExtension,
+    RtpExtensionPastTheEnd,
     RtpMapError,
+    RtpOtherVersion,
+    RtpPadding,
+    RtpPaddingOfZero,
+    RtpPaddingTooLong,
+    RtpPayloadType,
+    RtpTooShort,
+    RtpWriteError,
+    RtxNoOriginal,
     SdpAbsent,
     SdpClockRate,
     SdpConstraintsNotBase64,
@@ -125,6 +142,16 @@ from .profile import (
     h266_is_known,
 )
 from .receiver import Outcome, Received, Receiver
+from .rtcp import (
+    FullIntraRequest,
+    GenericNack,
+    PictureLoss,
+    ReceiverReport,
+    ReportBlock,
+    RtpStatistics,
+    rtcp_packets,
+)
+from .rtp import RtpDatagram, RtpHeader, is_rtcp, red_primary, write_rtx
 from .sdp import (
     CapabilityPoint,
     Constraints,
@@ -169,6 +196,8 @@ __all__ = [
     "Depacketizer",
     "Error",
     "FormatParameters",
+    "FullIntraRequest",
+    "GenericNack",
     "H264Level",
     "H264Profile",
     "H264ProfileLevel",
@@ -200,12 +229,34 @@ __all__ = [
     "ParallelTool",
     "ParametersError",
     "Part",
+    "PictureLoss",
     "Pushed",
     "Received",
     "Receiver",
+    "ReceiverReport",
+    "RedBlocksPastTheEnd",
+    "RedError",
+    "RedHeadersPastTheEnd",
+    "ReportBlock",
+    "RtpCsrcs",
+    "RtpCsrcsPastTheEnd",
+    "RtpDatagram",
+    "RtpError",
+    "RtpExtension",
+    "RtpExtensionPastTheEnd",
+    "RtpHeader",
     "RtpMap",
     "RtpMapError",
+    "RtpOtherVersion",
     "RtpPacket",
+    "RtpPadding",
+    "RtpPaddingOfZero",
+    "RtpPaddingTooLong",
+    "RtpPayloadType",
+    "RtpStatistics",
+    "RtpTooShort",
+    "RtpWriteError",
+    "RtxNoOriginal",
     "SdpAbsent",
     "SdpClockRate",
     "SdpConstraintsNotBase64",
@@ -256,10 +307,14 @@ __all__ = [
     "is_partition_head",
     "is_partition_tail",
     "is_plain_unit",
+    "is_rtcp",
     "origin",
     "out_size_hint",
     "paci_packet",
+    "red_primary",
+    "rtcp_packets",
     "set_lowest_header",
     "units",
     "version",
+    "write_rtx",
 ]

@@ -10,6 +10,7 @@ from ctypes import (
     Structure,
     c_bool,
     c_char_p,
+    c_int32,
     c_size_t,
     c_uint8,
     c_uint16,
@@ -145,6 +146,67 @@ class PointNumbers(Structure):
     ]
 
 
+class RtpFields(Structure):
+    """What the header of an RTP packet says in numbers."""
+
+    _fields_ = [
+        ("timestamp", c_uint32),
+        ("ssrc", c_uint32),
+        ("sequence", c_uint16),
+        ("profile", c_uint16),
+        ("payload_type", c_uint8),
+        ("marker", c_bool),
+        ("has_extension", c_bool),
+    ]
+
+
+class RtpPlaces(Structure):
+    """Where the parts of an RTP packet are."""
+
+    _fields_ = [
+        ("header", RtpFields),
+        ("csrcs_len", c_size_t),
+        ("extension_len", c_size_t),
+        ("payload", c_size_t),
+        ("payload_len", c_size_t),
+        ("padding_len", c_size_t),
+    ]
+
+
+class ReportGiven(Structure):
+    """What a receiver reports of a source."""
+
+    _fields_ = [
+        ("ssrc", c_uint32),
+        ("lost", c_int32),
+        ("highest", c_uint32),
+        ("jitter", c_uint32),
+        ("last_sender_report", c_uint32),
+        ("delay", c_uint32),
+        ("fraction_lost", c_uint8),
+    ]
+
+
+class StatisticsKept(Structure):
+    """What is counted of a source."""
+
+    _fields_ = [
+        ("expected", c_uint64),
+        ("received", c_uint64),
+        ("bytes", c_uint64),
+        ("recovered", c_uint64),
+        ("jitter", c_uint64),
+        ("expected_before", c_uint64),
+        ("received_before", c_uint64),
+        ("transit", c_uint32),
+        ("base", c_uint16),
+        ("highest", c_uint16),
+        ("after_jump", c_uint16),
+        ("has_transit", c_bool),
+        ("has_jumped", c_bool),
+    ]
+
+
 _HANDLE = POINTER(Handle)
 _SIZE = POINTER(c_size_t)
 _BYTE = POINTER(c_uint8)
@@ -158,6 +220,10 @@ _TIMES = POINTER(NackTimesGiven)
 _UNIT = POINTER(UnitTold)
 _COUNTS = POINTER(UnitsCounts)
 _SAID = POINTER(ConstraintsSaid)
+_FIELDS = POINTER(RtpFields)
+_PLACES = POINTER(RtpPlaces)
+_REPORT = POINTER(ReportGiven)
+_STATISTICS = POINTER(StatisticsKept)
 # Bytes that a call reads are a `bytes` object, which nobody changes meanwhile. Those that it writes
 # are an address.
 _IN = (c_char_p, c_size_t)
@@ -253,9 +319,29 @@ CALLS: Dict[str, Tuple[Any, List[Any]]] = {
     "h264_profile_level": (c_bool, [c_uint32, _BYTE, _BYTE]),
     "h265_is_known": _IS_KNOWN,
     "h266_is_known": _IS_KNOWN,
+    "is_rtcp": (c_bool, [*_IN]),
+    "rtp_read": (c_uint32, [*_IN, _PLACES]),
+    "rtp_original": (c_uint32, [*_IN, c_uint8, c_uint32, _PLACES]),
+    "rtp_write": (c_uint32, [_FIELDS, *_IN, *_IN, *_IN, *_IN, *_OUT, _SIZE]),
+    "rtp_write_before": (c_uint32, [_FIELDS, *_IN, *_IN, c_bool, c_size_t, *_OUT, _SIZE]),
+    "rtx_write": (c_uint32, [*_IN, c_uint8, c_uint16, c_uint32, *_OUT, _SIZE]),
+    "red_primary": (c_uint32, [*_IN, _BYTE, _SIZE]),
+    "pli_write": (c_uint32, [c_uint32, c_uint32, *_OUT, _SIZE]),
+    "pli_read": (c_bool, [*_IN, _WORD, _WORD]),
+    "fir_write": (c_uint32, [c_uint32, c_uint32, c_uint8, *_OUT, _SIZE]),
+    "fir_read": (c_bool, [*_IN, _WORD, _WORD, _BYTE]),
+    "receiver_report_write": (c_uint32, [c_uint32, _REPORT, *_OUT, _SIZE]),
+    "receiver_report_read": (c_bool, [*_IN, _WORD, _REPORT]),
+    "nack_write": (c_uint32, [c_uint32, c_uint32, *_IN, *_OUT, _SIZE, _SIZE]),
+    "nack_read": (c_bool, [*_IN, _WORD, _WORD, *_OUT, _SIZE]),
+    "rtcp_next": (c_bool, [*_IN, c_size_t, _SIZE]),
+    "rtp_statistics_receive": (c_bool, [_STATISTICS, c_uint32, c_uint16, c_uint32, c_size_t]),
+    "rtp_statistics_recover": (None, [_STATISTICS]),
+    "rtp_statistics_report": (None, [_STATISTICS, c_uint32, c_uint32, c_uint32, _REPORT]),
     "sdp_read": (c_uint32, [c_uint32, *_IN, _HANDLE, _WHY]),
     "sdp_of_payload": (c_uint32, [c_uint32, *_IN, _HANDLE]),
     "sdp_answer": (c_uint32, [_HANDLE, _HANDLE, _HANDLE]),
+    "sdp_answer_any_order": (c_uint32, [_HANDLE, _HANDLE, _HANDLE]),
     "sdp_free": _FREE,
     "sdp_codec": (c_uint32, [_HANDLE]),
     "sdp_write": (c_uint32, [_HANDLE, *_OUT, _SIZE]),

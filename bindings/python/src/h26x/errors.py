@@ -131,22 +131,24 @@ class OutOfRange(Error, ValueError):
 
 
 class NoRoom(Error):
-    """Packets don't fit in the caller's memory. Nothing is changed, so the call can be made again."""
+    """Packets, a header, or a NACK of one number don't fit in the caller's memory. Nothing is changed, so the call can
+    be made again."""
 
     code = 13
 
     @property
     def count(self) -> int:
-        """How many packets there are."""
+        """How many packets there are; 0 of a header and a NACK."""
         return self.first
 
     @property
     def size(self) -> int:
-        """How many bytes they take with their headroom."""
+        """How many bytes they take with their headroom; how many a header has, or a NACK of one number."""
         return self.second
 
     def _numbers(self) -> str:
-        return f" ({self.count} packets, {self.size} bytes)"
+        packets = f"{self.count} packets, " if self.count else ""
+        return f" ({packets}{self.size} bytes)"
 
 
 class NothingYet(Error):
@@ -431,6 +433,96 @@ class SdpLongConstraints(ConstraintsError):
     code = 48
 
 
+class RtpError(Error, ValueError):
+    """Bytes are no RTP packet (RFC 3550, 5.1). It is the first fault from the left."""
+
+
+class RtpTooShort(RtpError):
+    """They are fewer than the 12 that every header has."""
+
+    code = 50
+
+
+class RtpOtherVersion(RtpError):
+    """The version isn't 2."""
+
+    code = 51
+
+
+class RtpCsrcsPastTheEnd(RtpError):
+    """CSRCs pass the end."""
+
+    code = 52
+
+
+class RtpExtensionPastTheEnd(RtpError):
+    """The header extension passes the end."""
+
+    code = 53
+
+
+class RtpPaddingOfZero(RtpError):
+    """P is set, and the last byte says that 0 bytes are padding."""
+
+    code = 54
+
+
+class RtpPaddingTooLong(RtpError):
+    """The padding is longer than what stands behind the header."""
+
+    code = 55
+
+
+class RtpWriteError(Error, ValueError):
+    """An RTP packet isn't written (RFC 3550, 5.1). It is the first part that has no place in one."""
+
+
+class RtpPayloadType(RtpWriteError):
+    """The payload type is above 127."""
+
+    code = 56
+
+
+class RtpCsrcs(RtpWriteError):
+    """The CSRCs aren't whole, four bytes each, or more than 15."""
+
+    code = 57
+
+
+class RtpExtension(RtpWriteError):
+    """The extension isn't of whole words of four bytes, or has over 65,535."""
+
+    code = 58
+
+
+class RtpPadding(RtpWriteError):
+    """The last byte of the padding isn't its length."""
+
+    code = 59
+
+
+class RtxNoOriginal(Error, ValueError):
+    """A retransmission has under two bytes of payload: it is padding, or a probe (RFC 4588, 4)."""
+
+    code = 60
+
+
+class RedError(Error, ValueError):
+    """Bytes are no redundant payload (RFC 2198, 3). It is the first fault from the left."""
+
+
+class RedHeadersPastTheEnd(RedError):
+    """No header of a block has F clear."""
+
+    code = 61
+
+
+class RedBlocksPastTheEnd(RedError):
+    """Blocks are longer than what stands behind the headers."""
+
+    code = 62
+
+
 _ERRORS: Dict[int, Type[Error]] = {
     error.code: error
     for error in (
@@ -480,6 +572,19 @@ _ERRORS: Dict[int, Type[Error]] = {
         SdpConstraintsNotBase64,
         SdpShortConstraints,
         SdpLongConstraints,
+        RtpTooShort,
+        RtpOtherVersion,
+        RtpCsrcsPastTheEnd,
+        RtpExtensionPastTheEnd,
+        RtpPaddingOfZero,
+        RtpPaddingTooLong,
+        RtpPayloadType,
+        RtpCsrcs,
+        RtpExtension,
+        RtpPadding,
+        RtxNoOriginal,
+        RedHeadersPastTheEnd,
+        RedBlocksPastTheEnd,
     )
 }
 

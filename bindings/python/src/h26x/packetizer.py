@@ -36,7 +36,7 @@ class Packing(IntEnum):
 class Packetizer(Owner):
     """Cuts encoded video into RTP payloads within a limit (RFC 6184, 5; RFC 7798, 4.4; RFC 9328, 4.3).
 
-    RTP's own header is the caller's. One object may be used by several threads; one call at a time
+    RTP's own header isn't written (RtpHeader does). One object may be used by several threads; one call at a time
     runs.
 
     >>> with Packetizer(Codec.H264) as packetizer:

@@ -309,29 +309,36 @@ class FormatParameters(Owner):
                     return [_point_of(point) for point in points[: count.value]]
                 most = count.value
 
-    def answer(self, *ours: FormatParameters) -> Optional[FormatParameters]:
+    def answer(
+        self, *ours: FormatParameters, any_order: bool = False
+    ) -> Optional[FormatParameters]:
         """The answer to these parameters of an offer, by the first of ours that gives one; None where none
         does, as where the standard has no such profile or level. One of ours that its RFC forbids, as a
         max-fs below the level's, gives none. It is for both directions, and for unicast (RFC 6184, 8.2.2;
         RFC 7798, 7.2.2; RFC 9328, 7.3.2). Raises OutOfMemory.
 
+        Formats whose units may be sent in another order than decoded (packetization-mode 2,
+        sprop-max-don-diff above 0) are answered only with `any_order`: by an end that reads STAP-B, MTAP and
+        FU-B of H.264, which a Depacketizer doesn't, and puts units in order by their decoding order numbers.
+
         To answer an offer, go through its formats in their order: the first that is answered gives the
         answer, with its payload type (RFC 3264, 6.1)."""
         for own in ours:
             made = Handle()
-            code = self._answer(own, made)
+            code = self._answer(own, made, any_order)
             if code != SdpNoAnswer.code:
                 check(code)
                 return self._of(self._codec, made)
         return None
 
-    def _answer(self, ours: FormatParameters, made: Handle) -> int:
+    def _answer(self, ours: FormatParameters, made: Handle, any_order: bool) -> int:
         """Has the answer made by one of ours."""
         with ExitStack() as locks:
             # In one order, so that two threads that answer by the same two don't wait for each other.
             for one in [self] if ours is self else sorted((self, ours), key=id):
                 locks.enter_context(one._lock)
-            code = library.h26x_sdp_answer(self._live(), ours._live(), byref(made))
+            call = library.h26x_sdp_answer_any_order if any_order else library.h26x_sdp_answer
+            code = call(self._live(), ours._live(), byref(made))
         return int(code)
 
     def __copy__(self) -> NoReturn:

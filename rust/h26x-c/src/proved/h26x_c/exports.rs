@@ -11,6 +11,10 @@ pub use super::access_units::NackTimes;
 pub use super::const_handle::ConstHandle;
 pub use super::handle::Handle;
 pub use super::place::Place;
+pub use super::rtcp::Report;
+pub use super::rtcp::Statistics;
+pub use super::rtp::RtpFields;
+pub use super::rtp::RtpPlaces;
 pub use super::shown::Shown;
 use crate::pointers;
 pub use crate::proved::h26x_codes::code::Refusal;
@@ -71,7 +75,7 @@ pub unsafe extern "C" fn h26x_access_units_push(
             sequence,
             timestamp,
             marker,
-            pointers::bytes(payload, payload_len),
+            pointers::items(payload, payload_len),
             pointers::output(pushed, &mut no_pushed),
             pointers::output(behind, &mut no_behind),
         )
@@ -244,7 +248,7 @@ pub unsafe extern "C" fn h26x_packetize_units(
         super::every_unit::h26x_packetize_units(
             pointers::lent(p),
             mtu,
-            pointers::bytes(access_unit, access_unit_len),
+            pointers::items(access_unit, access_unit_len),
             pointers::output(count, &mut no_count),
             pointers::output(why, &mut no_why),
         )
@@ -270,7 +274,7 @@ pub unsafe extern "C" fn h26x_units_size(
         super::every_unit::h26x_units_size(
             pointers::shared(p),
             mtu,
-            pointers::bytes(access_unit, access_unit_len),
+            pointers::items(access_unit, access_unit_len),
             headroom,
             pointers::output(count, &mut no_count),
             pointers::output(size, &mut no_size),
@@ -302,7 +306,7 @@ pub unsafe extern "C" fn h26x_packetize_units_into(
         super::every_unit::h26x_packetize_units_into(
             pointers::lent(p),
             mtu,
-            pointers::bytes(access_unit, access_unit_len),
+            pointers::items(access_unit, access_unit_len),
             headroom,
             pointers::room(to, room),
             pointers::room(ends, ends_room),
@@ -327,8 +331,8 @@ pub unsafe extern "C" fn h26x_h265_paci_packet(
     // SAFETY: a caller owes what the header says.
     unsafe {
         super::paci::h26x_h265_paci_packet(
-            pointers::bytes(unit, unit_len),
-            pointers::bytes(extension, extension_len),
+            pointers::items(unit, unit_len),
+            pointers::items(extension, extension_len),
             pointers::room(to, room),
             pointers::output(len, &mut no_len),
         )
@@ -342,7 +346,7 @@ pub unsafe extern "C" fn h26x_is_partition_head(
     packet_len: usize,
 ) -> bool {
     // SAFETY: a caller owes what the header says.
-    unsafe { super::packets::h26x_is_partition_head(codec, pointers::bytes(packet, packet_len)) }
+    unsafe { super::packets::h26x_is_partition_head(codec, pointers::items(packet, packet_len)) }
 }
 
 #[unsafe(no_mangle)]
@@ -354,7 +358,7 @@ pub unsafe extern "C" fn h26x_is_partition_tail(
 ) -> bool {
     // SAFETY: a caller owes what the header says.
     unsafe {
-        super::packets::h26x_is_partition_tail(codec, marker, pointers::bytes(packet, packet_len))
+        super::packets::h26x_is_partition_tail(codec, marker, pointers::items(packet, packet_len))
     }
 }
 
@@ -365,7 +369,7 @@ pub unsafe extern "C" fn h26x_detect_keyframe(
     packet_len: usize,
 ) -> bool {
     // SAFETY: a caller owes what the header says.
-    unsafe { super::packets::h26x_detect_keyframe(codec, pointers::bytes(packet, packet_len)) }
+    unsafe { super::packets::h26x_detect_keyframe(codec, pointers::items(packet, packet_len)) }
 }
 
 #[unsafe(no_mangle)]
@@ -377,7 +381,7 @@ pub unsafe extern "C" fn h26x_begins_keyframe(
 ) -> bool {
     // SAFETY: a caller owes what the header says.
     unsafe {
-        super::packets::h26x_begins_keyframe(codec, numbers, pointers::bytes(packet, packet_len))
+        super::packets::h26x_begins_keyframe(codec, numbers, pointers::items(packet, packet_len))
     }
 }
 
@@ -388,7 +392,7 @@ pub unsafe extern "C" fn h26x_detect_h264_nalu(
     kind: u8,
 ) -> bool {
     // SAFETY: a caller owes what the header says.
-    unsafe { super::packets::h26x_detect_h264_nalu(pointers::bytes(packet, packet_len), kind) }
+    unsafe { super::packets::h26x_detect_h264_nalu(pointers::items(packet, packet_len), kind) }
 }
 
 #[unsafe(no_mangle)]
@@ -492,7 +496,7 @@ pub unsafe extern "C" fn h26x_depacketize(
         super::receiving::h26x_depacketize(
             pointers::lent(d),
             avc,
-            pointers::bytes(packet, packet_len),
+            pointers::items(packet, packet_len),
             pointers::room(to, room),
             pointers::output(written, &mut no_written),
             pointers::in_out(extra, &mut no_extra),
@@ -518,6 +522,388 @@ pub unsafe extern "C" fn h26x_give_up_run(d: *mut Handle) -> u32 {
 }
 
 #[unsafe(no_mangle)]
+pub unsafe extern "C" fn h26x_pli_write(
+    sender: u32,
+    media: u32,
+    to: *mut u8,
+    room: usize,
+    len: *mut usize,
+) -> u32 {
+    let mut no_len = MaybeUninit::uninit();
+    // SAFETY: a caller owes what the header says.
+    unsafe {
+        super::rtcp::h26x_pli_write(
+            sender,
+            media,
+            pointers::room(to, room),
+            pointers::output(len, &mut no_len),
+        )
+    }
+}
+
+#[unsafe(no_mangle)]
+pub unsafe extern "C" fn h26x_pli_read(
+    packet: *const u8,
+    packet_len: usize,
+    sender: *mut u32,
+    media: *mut u32,
+) -> bool {
+    let mut no_sender = MaybeUninit::uninit();
+    let mut no_media = MaybeUninit::uninit();
+    // SAFETY: a caller owes what the header says.
+    unsafe {
+        super::rtcp::h26x_pli_read(
+            pointers::items(packet, packet_len),
+            pointers::output(sender, &mut no_sender),
+            pointers::output(media, &mut no_media),
+        )
+    }
+}
+
+#[unsafe(no_mangle)]
+pub unsafe extern "C" fn h26x_fir_write(
+    sender: u32,
+    media: u32,
+    number: u8,
+    to: *mut u8,
+    room: usize,
+    len: *mut usize,
+) -> u32 {
+    let mut no_len = MaybeUninit::uninit();
+    // SAFETY: a caller owes what the header says.
+    unsafe {
+        super::rtcp::h26x_fir_write(
+            sender,
+            media,
+            number,
+            pointers::room(to, room),
+            pointers::output(len, &mut no_len),
+        )
+    }
+}
+
+#[unsafe(no_mangle)]
+pub unsafe extern "C" fn h26x_fir_read(
+    packet: *const u8,
+    packet_len: usize,
+    sender: *mut u32,
+    media: *mut u32,
+    number: *mut u8,
+) -> bool {
+    let mut no_sender = MaybeUninit::uninit();
+    let mut no_media = MaybeUninit::uninit();
+    let mut no_number = MaybeUninit::uninit();
+    // SAFETY: a caller owes what the header says.
+    unsafe {
+        super::rtcp::h26x_fir_read(
+            pointers::items(packet, packet_len),
+            pointers::output(sender, &mut no_sender),
+            pointers::output(media, &mut no_media),
+            pointers::output(number, &mut no_number),
+        )
+    }
+}
+
+#[unsafe(no_mangle)]
+pub unsafe extern "C" fn h26x_receiver_report_write(
+    sender: u32,
+    report: *const Report,
+    to: *mut u8,
+    room: usize,
+    len: *mut usize,
+) -> u32 {
+    let mut no_len = MaybeUninit::uninit();
+    // SAFETY: a caller owes what the header says.
+    unsafe {
+        super::rtcp::h26x_receiver_report_write(
+            sender,
+            pointers::shared(report),
+            pointers::room(to, room),
+            pointers::output(len, &mut no_len),
+        )
+    }
+}
+
+#[unsafe(no_mangle)]
+pub unsafe extern "C" fn h26x_receiver_report_read(
+    packet: *const u8,
+    packet_len: usize,
+    sender: *mut u32,
+    report: *mut Report,
+) -> bool {
+    let mut no_sender = MaybeUninit::uninit();
+    let mut no_report = MaybeUninit::uninit();
+    // SAFETY: a caller owes what the header says.
+    unsafe {
+        super::rtcp::h26x_receiver_report_read(
+            pointers::items(packet, packet_len),
+            pointers::output(sender, &mut no_sender),
+            pointers::output(report, &mut no_report),
+        )
+    }
+}
+
+#[unsafe(no_mangle)]
+pub unsafe extern "C" fn h26x_nack_write(
+    sender: u32,
+    media: u32,
+    numbers: *const u16,
+    numbers_len: usize,
+    to: *mut u8,
+    room: usize,
+    len: *mut usize,
+    count: *mut usize,
+) -> u32 {
+    let mut no_len = MaybeUninit::uninit();
+    let mut no_count = MaybeUninit::uninit();
+    // SAFETY: a caller owes what the header says.
+    unsafe {
+        super::rtcp::h26x_nack_write(
+            sender,
+            media,
+            pointers::items(numbers, numbers_len),
+            pointers::room(to, room),
+            pointers::output(len, &mut no_len),
+            pointers::output(count, &mut no_count),
+        )
+    }
+}
+
+#[unsafe(no_mangle)]
+pub unsafe extern "C" fn h26x_nack_read(
+    packet: *const u8,
+    packet_len: usize,
+    sender: *mut u32,
+    media: *mut u32,
+    numbers: *mut u16,
+    numbers_room: usize,
+    count: *mut usize,
+) -> bool {
+    let mut no_sender = MaybeUninit::uninit();
+    let mut no_media = MaybeUninit::uninit();
+    let mut no_count = MaybeUninit::uninit();
+    // SAFETY: a caller owes what the header says.
+    unsafe {
+        super::rtcp::h26x_nack_read(
+            pointers::items(packet, packet_len),
+            pointers::output(sender, &mut no_sender),
+            pointers::output(media, &mut no_media),
+            pointers::room(numbers, numbers_room),
+            pointers::output(count, &mut no_count),
+        )
+    }
+}
+
+#[unsafe(no_mangle)]
+pub unsafe extern "C" fn h26x_rtcp_next(
+    datagram: *const u8,
+    datagram_len: usize,
+    from: usize,
+    end: *mut usize,
+) -> bool {
+    let mut no_end = MaybeUninit::uninit();
+    // SAFETY: a caller owes what the header says.
+    unsafe {
+        super::rtcp::h26x_rtcp_next(
+            pointers::items(datagram, datagram_len),
+            from,
+            pointers::output(end, &mut no_end),
+        )
+    }
+}
+
+#[unsafe(no_mangle)]
+pub unsafe extern "C" fn h26x_rtp_statistics_receive(
+    statistics: *mut Statistics,
+    arrival: u32,
+    sequence: u16,
+    timestamp: u32,
+    size: usize,
+) -> bool {
+    // SAFETY: a caller owes what the header says.
+    unsafe {
+        super::rtcp::h26x_rtp_statistics_receive(
+            pointers::lent(statistics),
+            arrival,
+            sequence,
+            timestamp,
+            size,
+        )
+    }
+}
+
+#[unsafe(no_mangle)]
+pub unsafe extern "C" fn h26x_rtp_statistics_recover(statistics: *mut Statistics) {
+    // SAFETY: a caller owes what the header says.
+    unsafe { super::rtcp::h26x_rtp_statistics_recover(pointers::lent(statistics)) }
+}
+
+#[unsafe(no_mangle)]
+pub unsafe extern "C" fn h26x_rtp_statistics_report(
+    statistics: *mut Statistics,
+    ssrc: u32,
+    last_sender_report: u32,
+    delay: u32,
+    report: *mut Report,
+) {
+    let mut no_report = MaybeUninit::uninit();
+    // SAFETY: a caller owes what the header says.
+    unsafe {
+        super::rtcp::h26x_rtp_statistics_report(
+            pointers::lent(statistics),
+            ssrc,
+            last_sender_report,
+            delay,
+            pointers::output(report, &mut no_report),
+        )
+    }
+}
+
+#[unsafe(no_mangle)]
+pub unsafe extern "C" fn h26x_is_rtcp(datagram: *const u8, datagram_len: usize) -> bool {
+    // SAFETY: a caller owes what the header says.
+    unsafe { super::rtp::h26x_is_rtcp(pointers::items(datagram, datagram_len)) }
+}
+
+#[unsafe(no_mangle)]
+pub unsafe extern "C" fn h26x_rtp_read(
+    datagram: *const u8,
+    datagram_len: usize,
+    packet: *mut RtpPlaces,
+) -> u32 {
+    let mut no_packet = MaybeUninit::uninit();
+    // SAFETY: a caller owes what the header says.
+    unsafe {
+        super::rtp::h26x_rtp_read(
+            pointers::items(datagram, datagram_len),
+            pointers::output(packet, &mut no_packet),
+        )
+    }
+}
+
+#[unsafe(no_mangle)]
+pub unsafe extern "C" fn h26x_rtp_original(
+    datagram: *const u8,
+    datagram_len: usize,
+    payload_type: u8,
+    ssrc: u32,
+    packet: *mut RtpPlaces,
+) -> u32 {
+    let mut no_packet = MaybeUninit::uninit();
+    // SAFETY: a caller owes what the header says.
+    unsafe {
+        super::rtp::h26x_rtp_original(
+            pointers::items(datagram, datagram_len),
+            payload_type,
+            ssrc,
+            pointers::output(packet, &mut no_packet),
+        )
+    }
+}
+
+#[unsafe(no_mangle)]
+pub unsafe extern "C" fn h26x_rtp_write(
+    header: *const RtpFields,
+    csrcs: *const u8,
+    csrcs_len: usize,
+    extension: *const u8,
+    extension_len: usize,
+    payload: *const u8,
+    payload_len: usize,
+    padding: *const u8,
+    padding_len: usize,
+    to: *mut u8,
+    room: usize,
+    len: *mut usize,
+) -> u32 {
+    let mut no_len = MaybeUninit::uninit();
+    // SAFETY: a caller owes what the header says.
+    unsafe {
+        super::rtp::h26x_rtp_write(
+            pointers::shared(header),
+            pointers::items(csrcs, csrcs_len),
+            pointers::items(extension, extension_len),
+            pointers::items(payload, payload_len),
+            pointers::items(padding, padding_len),
+            pointers::room(to, room),
+            pointers::output(len, &mut no_len),
+        )
+    }
+}
+
+#[unsafe(no_mangle)]
+pub unsafe extern "C" fn h26x_rtp_write_before(
+    header: *const RtpFields,
+    csrcs: *const u8,
+    csrcs_len: usize,
+    extension: *const u8,
+    extension_len: usize,
+    padded: bool,
+    place: usize,
+    to: *mut u8,
+    room: usize,
+    len: *mut usize,
+) -> u32 {
+    let mut no_len = MaybeUninit::uninit();
+    // SAFETY: a caller owes what the header says.
+    unsafe {
+        super::rtp::h26x_rtp_write_before(
+            pointers::shared(header),
+            pointers::items(csrcs, csrcs_len),
+            pointers::items(extension, extension_len),
+            padded,
+            place,
+            pointers::room(to, room),
+            pointers::output(len, &mut no_len),
+        )
+    }
+}
+
+#[unsafe(no_mangle)]
+pub unsafe extern "C" fn h26x_rtx_write(
+    datagram: *const u8,
+    datagram_len: usize,
+    payload_type: u8,
+    sequence: u16,
+    ssrc: u32,
+    to: *mut u8,
+    room: usize,
+    len: *mut usize,
+) -> u32 {
+    let mut no_len = MaybeUninit::uninit();
+    // SAFETY: a caller owes what the header says.
+    unsafe {
+        super::rtp::h26x_rtx_write(
+            pointers::items(datagram, datagram_len),
+            payload_type,
+            sequence,
+            ssrc,
+            pointers::room(to, room),
+            pointers::output(len, &mut no_len),
+        )
+    }
+}
+
+#[unsafe(no_mangle)]
+pub unsafe extern "C" fn h26x_red_primary(
+    payload: *const u8,
+    payload_len: usize,
+    payload_type: *mut u8,
+    place: *mut usize,
+) -> u32 {
+    let mut no_payload_type = MaybeUninit::uninit();
+    let mut no_place = MaybeUninit::uninit();
+    // SAFETY: a caller owes what the header says.
+    unsafe {
+        super::rtp::h26x_red_primary(
+            pointers::items(payload, payload_len),
+            pointers::output(payload_type, &mut no_payload_type),
+            pointers::output(place, &mut no_place),
+        )
+    }
+}
+
+#[unsafe(no_mangle)]
 pub unsafe extern "C" fn h26x_rtpmap_read(
     text: *const u8,
     text_len: usize,
@@ -529,7 +915,7 @@ pub unsafe extern "C" fn h26x_rtpmap_read(
     // SAFETY: a caller owes what the header says.
     unsafe {
         super::rtp_map::h26x_rtpmap_read(
-            pointers::bytes(text, text_len),
+            pointers::items(text, text_len),
             pointers::output(payload_type, &mut no_payload_type),
             pointers::output(codec, &mut no_codec),
         )
@@ -563,7 +949,7 @@ pub unsafe extern "C" fn h26x_fits_single_units(
     limit: usize,
 ) -> bool {
     // SAFETY: a caller owes what the header says.
-    unsafe { super::rtp_map::h26x_fits_single_units(pointers::bytes(payload, payload_len), limit) }
+    unsafe { super::rtp_map::h26x_fits_single_units(pointers::items(payload, payload_len), limit) }
 }
 
 #[unsafe(no_mangle)]
@@ -579,7 +965,7 @@ pub unsafe extern "C" fn h26x_sdp_read(
     unsafe {
         super::sdp::h26x_sdp_read(
             codec,
-            pointers::bytes(text, text_len),
+            pointers::items(text, text_len),
             pointers::made(made),
             pointers::output(why, &mut no_why),
         )
@@ -597,7 +983,7 @@ pub unsafe extern "C" fn h26x_sdp_of_payload(
     unsafe {
         super::sdp::h26x_sdp_of_payload(
             codec,
-            pointers::bytes(payload, payload_len),
+            pointers::items(payload, payload_len),
             pointers::made(made),
         )
     }
@@ -612,6 +998,22 @@ pub unsafe extern "C" fn h26x_sdp_answer(
     // SAFETY: a caller owes what the header says.
     unsafe {
         super::sdp::h26x_sdp_answer(
+            pointers::shared(offered),
+            pointers::shared(ours),
+            pointers::made(made),
+        )
+    }
+}
+
+#[unsafe(no_mangle)]
+pub unsafe extern "C" fn h26x_sdp_answer_any_order(
+    offered: *const ConstHandle,
+    ours: *const ConstHandle,
+    made: *mut Place,
+) -> u32 {
+    // SAFETY: a caller owes what the header says.
+    unsafe {
+        super::sdp::h26x_sdp_answer_any_order(
             pointers::shared(offered),
             pointers::shared(ours),
             pointers::made(made),
@@ -666,7 +1068,7 @@ pub unsafe extern "C" fn h26x_sdp_value(
     unsafe {
         super::sdp::h26x_sdp_value(
             pointers::shared(h),
-            pointers::bytes(name, name_len),
+            pointers::items(name, name_len),
             or_default,
             pointers::room(to, room),
             pointers::output(len, &mut no_len),
@@ -687,7 +1089,7 @@ pub unsafe extern "C" fn h26x_sdp_number(
     unsafe {
         super::sdp::h26x_sdp_number(
             pointers::shared(h),
-            pointers::bytes(name, name_len),
+            pointers::items(name, name_len),
             or_default,
             pointers::output(value, &mut no_value),
         )
@@ -708,7 +1110,7 @@ pub unsafe extern "C" fn h26x_sdp_units(
     unsafe {
         super::sdp::h26x_sdp_units(
             pointers::shared(h),
-            pointers::bytes(name, name_len),
+            pointers::items(name, name_len),
             pointers::output(count, &mut no_count),
             pointers::output(why, &mut no_why),
         )
@@ -732,7 +1134,7 @@ pub unsafe extern "C" fn h26x_sdp_unit(
     unsafe {
         super::sdp::h26x_sdp_unit(
             pointers::shared(h),
-            pointers::bytes(name, name_len),
+            pointers::items(name, name_len),
             i,
             pointers::room(to, room),
             pointers::output(len, &mut no_len),
@@ -872,7 +1274,7 @@ pub unsafe extern "C" fn h26x_packetize(
         super::sending::h26x_packetize(
             pointers::lent(p),
             mtu,
-            pointers::bytes(payload, payload_len),
+            pointers::items(payload, payload_len),
             pointers::output(count, &mut no_count),
         )
     }
@@ -892,7 +1294,7 @@ pub unsafe extern "C" fn h26x_packetize_unit(
         super::sending::h26x_packetize_unit(
             pointers::lent(p),
             mtu,
-            pointers::bytes(unit, unit_len),
+            pointers::items(unit, unit_len),
             pointers::output(count, &mut no_count),
         )
     }
@@ -915,7 +1317,7 @@ pub unsafe extern "C" fn h26x_packets_size(
         super::sending::h26x_packets_size(
             pointers::shared(p),
             mtu,
-            pointers::bytes(payload, payload_len),
+            pointers::items(payload, payload_len),
             headroom,
             pointers::output(count, &mut no_count),
             pointers::output(size, &mut no_size),
@@ -944,7 +1346,7 @@ pub unsafe extern "C" fn h26x_packetize_into(
         super::sending::h26x_packetize_into(
             pointers::lent(p),
             mtu,
-            pointers::bytes(payload, payload_len),
+            pointers::items(payload, payload_len),
             headroom,
             pointers::room(to, room),
             pointers::room(ends, ends_room),
@@ -975,7 +1377,7 @@ pub unsafe extern "C" fn h26x_packetize_unit_into(
         super::sending::h26x_packetize_unit_into(
             pointers::lent(p),
             mtu,
-            pointers::bytes(unit, unit_len),
+            pointers::items(unit, unit_len),
             headroom,
             pointers::room(to, room),
             pointers::room(ends, ends_room),
@@ -1098,7 +1500,7 @@ pub unsafe extern "C" fn h26x_receive(
         super::sequenced::h26x_receive(
             pointers::lent(r),
             sequence,
-            pointers::bytes(packet, packet_len),
+            pointers::items(packet, packet_len),
             pointers::room(to, room),
             pointers::output(written, &mut no_written),
             pointers::in_out(extra, &mut no_extra),
@@ -1185,7 +1587,7 @@ pub unsafe extern "C" fn h26x_next_unit(
     unsafe {
         super::units::h26x_next_unit(
             codec,
-            pointers::bytes(payload, payload_len),
+            pointers::items(payload, payload_len),
             from,
             pointers::output(begin, &mut no_begin),
             pointers::output(end, &mut no_end),
@@ -1196,5 +1598,5 @@ pub unsafe extern "C" fn h26x_next_unit(
 #[unsafe(no_mangle)]
 pub unsafe extern "C" fn h26x_unit_is_plain(codec: u32, unit: *const u8, unit_len: usize) -> bool {
     // SAFETY: a caller owes what the header says.
-    unsafe { super::units::h26x_unit_is_plain(codec, pointers::bytes(unit, unit_len)) }
+    unsafe { super::units::h26x_unit_is_plain(codec, pointers::items(unit, unit_len)) }
 }

@@ -2,6 +2,7 @@
 
 //! The calls on format parameters of SDP.
 
+use crate::proved::h26x_answers::AnswerConfig;
 use crate::proved::h26x_c::const_handle::ConstHandle;
 use crate::proved::h26x_c::copied::copy_out;
 use crate::proved::h26x_c::handle::Handle;
@@ -63,8 +64,9 @@ pub fn h26x_sdp_of_payload(codec: u32, payload: &[u8], made: &mut MaybeUninit<Pl
     }
 }
 
-/// Makes the answer to an offered format by one of ours.
-pub fn h26x_sdp_answer(
+/// Makes the answer to an offered format by one of ours, of what the answerer takes.
+fn answered(
+    config: AnswerConfig,
     offered: &ConstHandle,
     ours: &ConstHandle,
     made: &mut MaybeUninit<Place>,
@@ -72,10 +74,28 @@ pub fn h26x_sdp_answer(
     let (Endpoint::Sdp(offered), Endpoint::Sdp(ours)) = (offered.get(), ours.get()) else {
         return WRONG_END;
     };
-    match offered.answer(ours) {
+    match offered.answer(config, ours) {
         Ok(it) => put(Endpoint::Sdp(it), made),
         Err(code) => code,
     }
+}
+
+/// Makes the answer to an offered format by one of ours, whose units are sent as they are decoded.
+pub fn h26x_sdp_answer(
+    offered: &ConstHandle,
+    ours: &ConstHandle,
+    made: &mut MaybeUninit<Place>,
+) -> u32 {
+    answered(AnswerConfig { any_order: false }, offered, ours, made)
+}
+
+/// The same of units in any order.
+pub fn h26x_sdp_answer_any_order(
+    offered: &ConstHandle,
+    ours: &ConstHandle,
+    made: &mut MaybeUninit<Place>,
+) -> u32 {
+    answered(AnswerConfig { any_order: true }, offered, ours, made)
 }
 
 /// Frees format parameters.

@@ -2,7 +2,7 @@
 
 //! Format parameters of SDP, with their codec.
 
-use crate::proved::h26x_answers::answer_format;
+use crate::proved::h26x_answers::{AnswerConfig, answer_format};
 use crate::proved::h26x_codec::Codec;
 use crate::proved::h26x_codes::code::{NOT_OF_THIS_CODEC, OUT_OF_MEMORY};
 use crate::proved::h26x_fmtp::{Kind, OtherParameter};
@@ -71,10 +71,15 @@ fn number_of<P: ListedParameter>(
 
 /// The answer to an offered format by one of ours, or that there is none.
 fn answer_of<P: ListedParameter>(
+    config: AnswerConfig,
     offered: &KeptParameters<P>,
     ours: &KeptParameters<P>,
 ) -> Result<KeptParameters<P>, u32> {
-    match answer_format(offered.parameters(), slice::from_ref(ours.parameters())) {
+    match answer_format(
+        config,
+        offered.parameters(),
+        slice::from_ref(ours.parameters()),
+    ) {
         Ok(Some(answer)) => KeptParameters::of(answer),
         Ok(None) => Err(NO_ANSWER),
         Err(_) => Err(OUT_OF_MEMORY),
@@ -119,16 +124,16 @@ impl SdpEndpoint {
     }
 
     /// The answer to an offered format by one of ours; there is none of another codec.
-    pub fn answer(&self, ours: &SdpEndpoint) -> Result<Self, u32> {
+    pub fn answer(&self, config: AnswerConfig, ours: &SdpEndpoint) -> Result<Self, u32> {
         match (self, ours) {
             (SdpEndpoint::H264(offered), SdpEndpoint::H264(ours)) => {
-                Ok(SdpEndpoint::H264(answer_of(offered, ours)?))
+                Ok(SdpEndpoint::H264(answer_of(config, offered, ours)?))
             }
             (SdpEndpoint::H265(offered), SdpEndpoint::H265(ours)) => {
-                Ok(SdpEndpoint::H265(answer_of(offered, ours)?))
+                Ok(SdpEndpoint::H265(answer_of(config, offered, ours)?))
             }
             (SdpEndpoint::H266(offered), SdpEndpoint::H266(ours)) => {
-                Ok(SdpEndpoint::H266(answer_of(offered, ours)?))
+                Ok(SdpEndpoint::H266(answer_of(config, offered, ours)?))
             }
             _ => Err(NO_ANSWER),
         }

@@ -1,0 +1,275 @@
+//! The calls on RTP packets (RFC 3550), and on what they bear of other packets (RTX, RFC 4588; RED, RFC
+//! 2198).
+
+ghost use Rattle.std.specs.Prelude.{◌≡◌, ◌≤◌, ℕ, Result, IfOk, length};
+ghost use Rattle.h26x_rtp.specs.Reading.{datagram_of};
+ghost use Rattle.h26x_rtp.specs.Red.{red_of};
+ghost use Rattle.h26x_rtp.specs.Rtcp.{is_rtcp_packet};
+ghost use Rattle.h26x_rtp.specs.Rtx.{retransmission_of};
+ghost use Rattle.h26x_rtp.specs.Views.{header_view, datagram_view};
+ghost use Rattle.h26x_rtp.specs.Writing.{IsHeaderWritten, IsDatagramWritten};
+ghost use Rattle.h26x_rtp.specs.declared.error.RtpWriteError.{RtpWriteError};
+ghost use Rattle.h26x_c.specs.Rtp as spec;
+
+use h26x_codes::code::{NO_ROOM, OK};
+use h26x_rtp::{
+    RedError, RedPayload, RtpDatagram, RtpError, RtpExtension, RtpHeader, RtpWriteError, is_rtcp,
+};
+
+/// A retransmission packet bears no original.
+const NO_ORIGINAL: u32 = 60;
+
+/// What the header of an RTP packet says in numbers (RFC 3550, 5.1).
+#[repr(C)]
+#[derive(Clone, Copy)]
+pub struct RtpFields {
+    pub timestamp: u32,
+    pub ssrc: u32,
+    pub sequence: u16,
+    pub profile: u16,
+    pub payload_type: u8,
+    pub marker: bool,
+    pub has_extension: bool,
+}
+
+/// An RTP packet in numbers: where its parts are (RFC 3550, 5.1).
+#[repr(C)]
+#[derive(Clone, Copy)]
+pub struct RtpPlaces {
+    pub header: RtpFields,
+    pub csrcs_len: usize,
+    pub extension_len: usize,
+    pub payload: usize,
+    pub payload_len: usize,
+    pub padding_len: usize,
+}
+
+/// Why bytes are no packet, as a code.
+fn code_of_reading(error: RtpError) -> u32
+    ensures { result ≡ spec.rtp_code error }
+{
+    match error {
+        RtpError::TooShort => 50,
+        RtpError::OtherVersion(_) => 51,
+        RtpError::CsrcsPastTheEnd => 52,
+        RtpError::ExtensionPastTheEnd => 53,
+        RtpError::PaddingOfZero => 54,
+        RtpError::PaddingTooLong => 55,
+    }
+}
+
+/// What writing answers; how many bytes are written, or would be.
+pub fn written(answer: Result<usize, RtpWriteError>, len: &mut usize) -> u32
+    ensures { (result, len.new) ≡ spec.written_answer answer len.old }
+{
+    match answer {
+        Ok(size) => {
+            *len = size;
+            OK
+        }
+        Err(RtpWriteError::NoRoom(size)) => {
+            *len = size;
+            NO_ROOM
+        }
+        Err(RtpWriteError::PayloadType) => 56,
+        Err(RtpWriteError::Csrcs) => 57,
+        Err(RtpWriteError::Extension) => 58,
+        Err(RtpWriteError::Padding) => 59,
+    }
+}
+
+/// What a header says in numbers.
+fn fields_of(header: RtpHeader<'_>) -> RtpFields
+    ensures { result ≡ spec.header_fields (header_view header.entry) }
+{
+    RtpFields {
+        timestamp: header.timestamp,
+        ssrc: header.ssrc,
+        sequence: header.sequence,
+        profile: header.extension.map_or(0, |it| it.profile),
+        payload_type: header.payload_type,
+        marker: header.marker,
+        has_extension: header.extension.is_some(),
+    }
+}
+
+/// A packet in numbers, whose payload ends at a place.
+fn places_of(end: usize, packet: RtpDatagram<'_>) -> RtpPlaces
+    requires { length packet.payload.now ≤ end }
+    ensures { result ≡ spec.packet_places end (datagram_view packet.entry) }
+{
+    RtpPlaces {
+        header: fields_of(packet.header),
+        csrcs_len: packet.header.csrcs.len(),
+        extension_len: packet.header.extension.map_or(0, |it| it.bytes.len()),
+        payload: end - packet.payload.len(),
+        payload_len: packet.payload.len(),
+        padding_len: packet.padding.len(),
+    }
+}
+
+/// Whether a datagram is RTCP and not RTP.
+#[unsafe(no_mangle)]
+pub extern "C" fn h26x_is_rtcp(datagram: &[u8]) -> bool
+    ensures { result ≡ is_rtcp_packet datagram.now }
+{
+    is_rtcp(datagram)
+}
+
+/// Reads an RTP packet.
+#[unsafe(no_mangle)]
+pub extern "C" fn h26x_rtp_read(datagram: &[u8], packet: &mut RtpPlaces) -> u32
+    ensures read { (result, packet.new)
+        ≡ spec.packet_answer (length datagram.now) (datagram_of datagram.now) packet.old }
+    ensures payload { IfOk (datagram_of datagram.now) (λ it. spec.part_at datagram.now
+        packet.new.payload packet.new.payload_len ≡ it.payload) }
+{
+    match RtpDatagram::read(datagram) {
+        Ok(it) => {
+            *packet = places_of(datagram.len() - it.padding.len(), it);
+            OK
+        }
+        Err(error) => code_of_reading(error),
+    }
+}
+
+/// Reads the original packet that a retransmission packet bears.
+#[unsafe(no_mangle)]
+pub extern "C" fn h26x_rtp_original(
+    datagram: &[u8],
+    payload_type: u8,
+    ssrc: u32,
+    packet: &mut RtpPlaces,
+) -> u32
+    ensures { spec.IsOriginalAnswer (length datagram.now) payload_type ssrc
+        (datagram_of datagram.now) result packet.old packet.new }
+{
+    match RtpDatagram::read(datagram) {
+        Ok(it) => match it.original(payload_type, ssrc) {
+            Some(original) => {
+                *packet = places_of(datagram.len() - it.padding.len(), original);
+                OK
+            }
+            None => NO_ORIGINAL,
+        },
+        Err(error) => code_of_reading(error),
+    }
+}
+
+/// The header that numbers, CSRCs and the bytes of an extension say.
+fn header_with<'a>(fields: &RtpFields, csrcs: &'a [u8], extension: &'a [u8]) -> RtpHeader<'a>
+    ensures { header_view result ≡ spec.header_with fields.now csrcs.now extension.now }
+{
+    let extension = if fields.has_extension {
+        Some(RtpExtension {
+            profile: fields.profile,
+            bytes: extension,
+        })
+    } else {
+        None
+    };
+    RtpHeader {
+        marker: fields.marker,
+        payload_type: fields.payload_type,
+        sequence: fields.sequence,
+        timestamp: fields.timestamp,
+        ssrc: fields.ssrc,
+        csrcs,
+        extension,
+    }
+}
+
+/// Writes an RTP packet.
+#[unsafe(no_mangle)]
+pub extern "C" fn h26x_rtp_write(
+    header: &RtpFields,
+    csrcs: &[u8],
+    extension: &[u8],
+    payload: &[u8],
+    padding: &[u8],
+    to: &mut [u8],
+    len: &mut usize,
+) -> u32
+    ensures { (answer : Result ℕ RtpWriteError) × IsDatagramWritten (record {
+      header = spec.header_with header.now csrcs.now extension.now;
+      payload = payload.now;
+      padding = padding.now;
+    }) to.old to.new answer × ((result, len.new) ≡ spec.written_answer answer len.old) }
+{
+    let header = header_with(header, csrcs, extension);
+    let packet = RtpDatagram {
+        header,
+        payload,
+        padding,
+    };
+    written(packet.write(to), len)
+}
+
+/// Writes a header right before a place, where a payload begins.
+#[unsafe(no_mangle)]
+pub extern "C" fn h26x_rtp_write_before(
+    header: &RtpFields,
+    csrcs: &[u8],
+    extension: &[u8],
+    padded: bool,
+    place: usize,
+    to: &mut [u8],
+    len: &mut usize,
+) -> u32
+    ensures { (answer : Result ℕ RtpWriteError) × IsHeaderWritten
+        (spec.header_with header.now csrcs.now extension.now) padded place to.old to.new answer
+        × ((result, len.new) ≡ spec.before_answer place answer len.old) }
+{
+    match header_with(header, csrcs, extension).write_before(padded, place, to) {
+        Ok(start) => {
+            *len = place - start;
+            OK
+        }
+        Err(error) => written(Err(error), len),
+    }
+}
+
+/// Writes the retransmission packet of a packet.
+#[unsafe(no_mangle)]
+pub extern "C" fn h26x_rtx_write(
+    datagram: &[u8],
+    payload_type: u8,
+    sequence: u16,
+    ssrc: u32,
+    to: &mut [u8],
+    len: &mut usize,
+) -> u32
+    ensures { spec.IsRetransmitted payload_type sequence ssrc (datagram_of datagram.now) to.old to.new
+        len.old result len.new }
+{
+    match RtpDatagram::read(datagram) {
+        Ok(it) => written(it.write_rtx(payload_type, sequence, ssrc, to), len),
+        Err(error) => code_of_reading(error),
+    }
+}
+
+/// Why bytes are no redundant payload, as a code.
+fn code_of_red(error: RedError) -> u32
+    ensures { result ≡ spec.red_code error }
+{
+    match error {
+        RedError::HeadersPastTheEnd => 61,
+        RedError::BlocksPastTheEnd => 62,
+    }
+}
+
+/// Reads the primary block of a redundant payload: its payload type, and where it begins.
+#[unsafe(no_mangle)]
+pub extern "C" fn h26x_red_primary(payload: &[u8], payload_type: &mut u8, place: &mut usize) -> u32
+    ensures { (result, (payload_type.new, place.new))
+        ≡ spec.red_answer (length payload.now) (red_of payload.now) (payload_type.old, place.old) }
+{
+    match RedPayload::read(payload) {
+        Ok(it) => {
+            *payload_type = it.payload_type;
+            *place = payload.len() - it.primary.len();
+            OK
+        }
+        Err(error) => code_of_red(error),
+    }
+}
