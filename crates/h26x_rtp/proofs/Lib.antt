@@ -7,6 +7,7 @@ pub mod RedLemmas
 pub mod RtxLemmas
 pub mod RedLawLemmas
 pub mod StatisticsLemmas
+pub mod PartLemmas
 pub mod FeedbackLemmas
 pub mod NackLemmas
 pub mod NackLawLemmas

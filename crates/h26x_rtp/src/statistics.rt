@@ -1,6 +1,6 @@
 //! What is counted of the packets of one source (RFC 3550, 6.4.1, A.1, A.3 and A.8).
 
-ghost use Rattle.std.specs.Prelude.{◌≡◌, ◌-◌, ◌/◌, ◌^◌, min};
+ghost use Rattle.std.specs.Prelude.{◌≡◌, ◌-◌, ◌*◌, ◌/◌, ◌^◌, ◌<◌, min, nat_le};
 ghost use Rattle.h26x_rtp.specs.Statistics as spec;
 ghost use Rattle.h26x_rtp.specs.Statistics.{tally};
 
@@ -52,6 +52,15 @@ fn lost_of(expected: u64, received: u64) -> i32
     }
 }
 
+/// Whether so many 256ths of packets were lost at least: without a division, of which those of 128 bits
+/// are calls.
+fn are_lost(part: u8, lost: u64, expected: u64) -> bool
+    requires { 0 < expected }
+    ensures { result ≡ nat_le part (lost * 256 / expected) }
+{
+    u128::from(part) * u128::from(expected) <= u128::from(lost) * 256
+}
+
 /// The part of packets that was lost, in 256ths (RFC 3550, A.3).
 fn fraction_of(expected: u64, received: u64) -> u8
     ensures { result ≡ spec.fraction_of expected received }
@@ -59,8 +68,11 @@ fn fraction_of(expected: u64, received: u64) -> u8
     if expected <= received {
         return 0;
     }
-    let part = u128::from(expected - received) * 256 / u128::from(expected);
-    part.min(255) as u8
+    let mut part = 0;
+    while part < 255 && are_lost(part + 1, expected - received, expected) {
+        part += 1;
+    }
+    part
 }
 
 /// By how much two transit times differ (RFC 3550, A.8).
