@@ -18,8 +18,8 @@ use Rattle.h26x_rtp_receiver.specs.declared.payload_types.RtpPayloadTypes.{RtpPa
 use Rattle.h26x_rtp_receiver.specs.declared.pushed.RtpPushed.{RtpPushed}
 use Rattle.h26x_rtp_receiver.specs.declared.pushed.RtpPushError.{RtpPushError}
 use Rattle.h26x_rtp_receiver.specs.Original.{is_type, resent_type, bearing, bearing_none, with_type, with_red, with_payload, there, original_by, original_of}
-use Rattle.h26x_rtp_receiver.specs.RtpReception.{RtpReception, Brought, Told, Brings, other_source, brought_by, brought_read, brought, is_packet_followed, BecomesOf, LacksMemory}
-use Rattle.h26x_rtp_receiver.specs.RtpCalls.{RtpCall, PushRtp, NextRtp, LackRtp, FinishRtp, FollowRtp, SettingsRtp, AskRtp, IsRtpCall, AreRtpCalls, no_rtp_call, one_rtp_call, calls_of, given_by}
+use Rattle.h26x_rtp_receiver.specs.RtpReception.{RtpReception, Brought, Told, Brings, other_source, brought_by, brought_read, brought, is_packet_followed, BecomesOf, LacksWantedMemory}
+use Rattle.h26x_rtp_receiver.specs.RtpCalls.{RtpCall, PushRtp, NextRtp, LackRtp, FinishRtp, FollowRtp, SettingsRtp, AskRtp, IsRtpCall, AreRtpCalls, no_rtp_call, one_rtp_call, given_calls, given_by}
 
 -- bytes in front of others and behind others are bytes
 bytes_front : (xs ys : List ℕ) → AreBytes (xs ++ ys) → AreBytes xs
@@ -168,7 +168,7 @@ refused_gives_none now (Ok (Brings it original)) e = refl
 refused_gives_none now (Err other) e = refl
 
 -- what becomes of what a datagram brings is given so
-lacking_given : (now : ℕ) (wants : Bool) (s new : RtpReception) (b : Result Brought RtpPushError) (result : Result RtpPushed RtpPushError) → LacksMemory wants s result new →
+lacking_given : (now : ℕ) (wants : Bool) (s new : RtpReception) (b : Result Brought RtpPushError) (result : Result RtpPushed RtpPushError) → LacksWantedMemory wants s result new →
     AreReceiverCalls s.reception (given_by now b result) new.reception
 lacking_given now wants s new b result lacks =
     subst (λ (r : Result RtpPushed RtpPushError). AreReceiverCalls s.reception (given_by now b r) new.reception) (sym lacks.lacks)
@@ -184,12 +184,12 @@ become_given now arrival most s new (Ok (Brings packet original)) result few fit
     (one_call no_call (fits.number, omega (arith, few, short), refl, it.1.given))
 
 push_given : (now arrival most : ℕ) (wants : Bool) (s new : RtpReception) (b : Result Brought RtpPushError) (result : Result RtpPushed RtpPushError) → most < 2 ^ 64 → FitsIfBrought most b →
-    LacksMemory wants s result new ⊎ BecomesOf now arrival s b result new → AreReceiverCalls s.reception (given_by now b result) new.reception
+    LacksWantedMemory wants s result new ⊎ BecomesOf now arrival s b result new → AreReceiverCalls s.reception (given_by now b result) new.reception
 push_given now arrival most wants s new b result few fits (inl lacks) = lacking_given now wants s new b result lacks
 push_given now arrival most wants s new b result few fits (inr it) = become_given now arrival most s new b result few fits it
 
 -- each call
-call_given : PacketIsRead → RedIsRead → (call : RtpCall) (s new : RtpReception) → IsRtpCall call s new → AreReceiverCalls s.reception (calls_of s call) new.reception
+call_given : PacketIsRead → RedIsRead → (call : RtpCall) (s new : RtpReception) → IsRtpCall call s new → AreReceiverCalls s.reception (given_calls s call) new.reception
 call_given packets reads (PushRtp now arrival datagram result) s new it =
     push_given now arrival (length datagram) _ s new (brought s datagram) result it.1 (brought_fits packets reads s datagram it.0) it.2
 call_given packets reads (NextRtp now unit) s new it = one_call no_call it.given
@@ -208,4 +208,4 @@ pub calls_given : PacketIsRead → RedIsRead → (s new : RtpReception) (calls :
     AreReceiverCalls s.reception given new.reception
 calls_given packets reads s new calls given no_rtp_call = no_call
 calls_given packets reads s new calls given (one_rtp_call {call = call} {before = before} {given = earlier} {t = t} others it) =
-    calls_behind s.reception t.reception new.reception (calls_of t call) earlier (calls_given packets reads s t before earlier others) (call_given packets reads call t new it)
+    calls_behind s.reception t.reception new.reception (given_calls t call) earlier (calls_given packets reads s t before earlier others) (call_given packets reads call t new it)

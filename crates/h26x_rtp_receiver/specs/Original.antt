@@ -29,7 +29,7 @@ begins_stream types payload_type =
     (payload_type == types.media) || is_type types.red payload_type
 
 -- A packet that bears nothing of the codec: its number is one of the stream's, which all packets of an
--- SSRC have in common (RFC 3550, 5.1; RFC 5109, 14.1).
+-- SSRC have in common (RFC 3550, 5.1; RFC 5109, 14.2).
 abbrev pub bearing_none : Bool → ℕ → NoMedia → RtpOriginal
 bearing_none is_recovered number why = record {
   packet = (number, rtp_body 0 false []);

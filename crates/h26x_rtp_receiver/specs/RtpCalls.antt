@@ -41,14 +41,14 @@ given_by now (Ok (Brings it original)) (Ok (Packet taken)) =
 given_by now brought result = []
 
 -- the calls of the receiver of access units that a call makes
-abbrev pub calls_of : RtpReception → RtpCall → List ReceiverCall
-calls_of s (PushRtp now arrival datagram result) = given_by now (brought s datagram) result
-calls_of s (NextRtp now unit) = NextCall now unit ∷ []
-calls_of s (LackRtp now) = LackCall now ∷ []
-calls_of s FinishRtp = FinishCall ∷ []
-calls_of s (FollowRtp sources) = RestartCall ∷ []
-calls_of s (SettingsRtp config) = SettingsCall config ∷ []
-calls_of s AskRtp = []
+abbrev pub given_calls : RtpReception → RtpCall → List ReceiverCall
+given_calls s (PushRtp now arrival datagram result) = given_by now (brought s datagram) result
+given_calls s (NextRtp now unit) = NextCall now unit ∷ []
+given_calls s (LackRtp now) = LackCall now ∷ []
+given_calls s FinishRtp = FinishCall ∷ []
+given_calls s (FollowRtp sources) = RestartCall ∷ []
+given_calls s (SettingsRtp config) = SettingsCall config ∷ []
+given_calls s AskRtp = []
 
 -- calls one after the other, the last one first, and those of the receiver of access units
 pub data AreRtpCalls (s : RtpReception) : List RtpCall → List ReceiverCall → RtpReception → Type 0
@@ -56,4 +56,4 @@ pub data AreRtpCalls (s : RtpReception) : List RtpCall → List ReceiverCall →
     no_rtp_call : AreRtpCalls s [] [] s
     one_rtp_call : {call : RtpCall} {before : List RtpCall} {given : List ReceiverCall}
         {t new : RtpReception} → AreRtpCalls s before given t → IsRtpCall call t new →
-        AreRtpCalls s (call ∷ before) (calls_of t call ++ given) new
+        AreRtpCalls s (call ∷ before) (given_calls t call ++ given) new

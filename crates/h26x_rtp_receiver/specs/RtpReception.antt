@@ -150,7 +150,7 @@ brings_kept s (Ok (Brings it original)) = is_kept (reception_answer s.reception 
 brings_kept s answer = false
 
 -- where memory lacks all is as it was, and it was wanted
-pub record LacksMemory (wants : Bool) (s : RtpReception) (result : Result RtpPushed RtpPushError)
+pub record LacksWantedMemory (wants : Bool) (s : RtpReception) (result : Result RtpPushed RtpPushError)
     (new : RtpReception) : Type 0 where
   pub lacks : result ≡ Err (errors.Packet OutOfMemory)
   pub wanted : wants ≡ true
@@ -160,12 +160,12 @@ pub record LacksMemory (wants : Bool) (s : RtpReception) (result : Result RtpPus
 abbrev pub IsOriginalPush : ℕ → ℕ → RtpReception → DatagramParts → RtpOriginal →
     Result RtpPushed RtpPushError → RtpReception → Type 0
 IsOriginalPush now arrival s it original result new =
-    LacksMemory (brings_kept s (Ok (Brings it original))) s result new
+    LacksWantedMemory (brings_kept s (Ok (Brings it original))) s result new
     ⊎ BecomesOf now arrival s (Ok (Brings it original)) result new
 
 abbrev pub IsBroughtPush : ℕ → ℕ → RtpReception → Result Brought RtpPushError →
     Result RtpPushed RtpPushError → RtpReception → Type 0
-IsBroughtPush now arrival s brought result new = LacksMemory (brings_kept s brought) s result new
+IsBroughtPush now arrival s brought result new = LacksWantedMemory (brings_kept s brought) s result new
     ⊎ BecomesOf now arrival s brought result new
 
 -- whether a packet wants memory: of a retransmission whose SSRC doesn't tell it is looked at what is
@@ -177,7 +177,7 @@ wants_memory s it =
 -- so of any packet
 abbrev pub IsPacketPush : ℕ → ℕ → RtpReception → DatagramParts → Result RtpPushed RtpPushError →
     RtpReception → Type 0
-IsPacketPush now arrival s it result new = LacksMemory (wants_memory s it) s result new
+IsPacketPush now arrival s it result new = LacksWantedMemory (wants_memory s it) s result new
     ⊎ BecomesOf now arrival s (brought_packet s it) result new
 
 -- whether bytes want memory that are read so
@@ -194,7 +194,7 @@ datagram_wants s datagram =
 abbrev pub IsRtpPush : ℕ → ℕ → RtpReception → List ℕ → Result RtpPushed RtpPushError → RtpReception →
     Type 0
 IsRtpPush now arrival s datagram result new =
-    LacksMemory (datagram_wants s datagram) s result new
+    LacksWantedMemory (datagram_wants s datagram) s result new
     ⊎ BecomesOf now arrival s (brought s datagram) result new
 
 -- once an access unit was given out, if one was

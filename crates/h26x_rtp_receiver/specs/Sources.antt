@@ -1,4 +1,4 @@
--- Which packets are of a stream (RFC 3550, 8; RFC 4588, 5.2 and 5.3).
+-- Which packets are of a stream (RFC 3550, 8; RFC 4588, 5.3).
 use Rattle.std.specs.Prelude.{ℕ, ◌==◌, nat_le, Bool, true, false, ◌&&◌, if◌then◌else◌, List, length, Option, Some, None, is_some}
 use Rattle.std.specs.List.{list_any}
 use Rattle.std.specs.Option.{option_map, unwrap_or}
@@ -13,7 +13,7 @@ abbrev pub no_sources : RtpSources
 no_sources = record { media = None; rtx = None }
 
 -- whether a packet is of the stream of this SSRC, where the SSRC of its retransmissions may be known:
--- it has either, or, where it is one of RTX and that isn't known, its SSRC doesn't tell (RFC 4588, 5.2)
+-- it has either, or, where it is one of RTX and that isn't known, its SSRC doesn't tell (RFC 4588, 5.3)
 abbrev pub told_of : RtpPayloadTypes → DatagramParts → Option ℕ → Option ℕ → Option Bool
 told_of types it rtx None = Some (begins_stream types it.header.payload_type)
 told_of types it rtx (Some media) =

@@ -14,7 +14,7 @@ pub struct RtpPayloadTypes {
     pub red: Option<u8>,
     /// That of RTX whose `apt` is `red`, as Chromium has it; without `red` it is none.
     pub rtx_of_red: Option<u8>,
-    /// That of FEC, by itself or in RED (RFC 5109, 14.1).
+    /// That of FEC, by itself or in RED (RFC 5109, 14).
     pub fec: Option<u8>,
 }
 
