@@ -19,11 +19,14 @@ use Rattle.h26x_access_units.specs.declared.pushed.Pushed.{Pushed}
 use Rattle.h26x_access_units.specs.declared.pushed.Pushed.TheVariants as pushes
 use Rattle.h26x_access_units.specs.declared.way.Way.{Way}
 use Rattle.h26x_access_units.specs.declared.way.Way.TheVariants as ways
-use Rattle.h26x_access_units.specs.Numbers.{bears_nothing, first_ended}
+use Rattle.h26x_access_units.specs.Numbers.{bears_nothing, first_ended, fresh_numbers}
+use Rattle.h26x_access_units.specs.Framing.{fresh_framing}
+use Rattle.h26x_access_units.specs.Decoder.{fresh_decoder}
+use Rattle.h26x_access_units.specs.Passed.{none_passed}
 use Rattle.h26x_access_units.specs.Pushed.{as_pushed}
 use Rattle.h26x_access_units.specs.JitterBuffer.{JitterState, fresh_jitter, may_tell_first, with_held_limit, is_pressed, is_full, jitter_answer, after_jitter, with_packet, with_two, has_room_for, due_packet, without_due, is_ahead, reach}
 use Rattle.h26x_access_units.specs.ReceivedAccessUnit.{ReceivedAccessUnitValue, received_unit, whole_with}
-use Rattle.h26x_access_units.specs.Reception.{Reception, fresh_reception, begun_reception, restarted, is_behind_stray, is_near_stray, answer_on, way_of, reception_answer, pushed_to, anew_of, held_with, after_reception, is_taken_at_once, is_behind_missing, IsDueTaken, IsEndedBefore, ended_behind_missing, ended_by_content, IsPushed, NoneIsDueUnlessEnded, IsDrained, none, bare, more, behind, IsDrainedInPart, bare_passed, without_bare, without_bare_of, ended_if_anew, ended_if_over, ended_reception, after_finish, has_no_unit, without_given, without_given_of, with_settings, IsNext, begun_for, believed, framing_at, ends_with, after_no_unit, is_no_unit, assembly_after, marker_forgotten, unit_given, unit_given_of, has_bare, IsAnswerTo, is_one_taken, begins_still, counts_answered, believed_packet, after_due, expected_for, ended_before, ends_before, is_repeat, is_too_far}
+use Rattle.h26x_access_units.specs.Reception.{Reception, reception, fresh_reception, begun_reception, restarted, is_behind_stray, is_near_stray, answer_on, way_of, reception_answer, pushed_to, anew_of, held_with, after_reception, is_taken_at_once, is_behind_missing, IsDueTaken, IsEndedBefore, ended_behind_missing, ended_by_content, IsPushed, NoneIsDueUnlessEnded, IsDrained, none, bare, more, behind, IsDrainedInPart, bare_passed, without_bare, without_bare_of, ended_if_anew, ended_if_over, ended_reception, after_finish, has_no_unit, without_given, without_given_of, with_settings, IsNext, begun_for, believed, framing_at, ends_with, after_no_unit, is_no_unit, assembly_after, marker_forgotten, unit_given, unit_given_of, has_bare, IsAnswerTo, is_one_taken, begins_still, counts_answered, believed_packet, after_due, expected_for, ended_before, ends_before, is_repeat, is_too_far}
 use Rattle.h26x_core.specs.declared.error.PacketError.{PacketError}
 use Rattle.h26x_receiver.specs.declared.received.Received.{Received}
 use Rattle.h26x_receiver.specs.declared.received.Received.TheVariants as received
@@ -31,10 +34,10 @@ use Rattle.h26x_receiver.specs.Sequenced.{is_run_kept, expected_after_skip, afte
 use Rattle.h26x_core.specs.declared.error.PacketError.TheVariants.{OutOfMemory}
 use Rattle.h26x_access_units.specs.declared.framing.Framing.{Framing}
 use Rattle.h26x_access_units.specs.declared.counts.Counts.{Counts}
-use Rattle.h26x_access_units.specs.Counts.{counted_push, counted_reason, counted_dropped, counted_skip, counted_answer, counted_no_unit, counted_framing, counted_due, counted_unit}
+use Rattle.h26x_access_units.specs.Counts.{no_counts, counted_push, counted_reason, counted_dropped, counted_skip, counted_answer, counted_no_unit, counted_framing, counted_due, counted_unit}
 use Rattle.h26x_access_units.specs.declared.pushed.NotPushedReason.{NotPushedReason}
 use Rattle.h26x_access_units.specs.declared.pushed.NotPushedReason.TheVariants as reasons
-use Rattle.h26x_model.specs.Receive.RunLimit.{run_len}
+use Rattle.h26x_model.specs.Receive.RunLimit.{run_len, state_with_run}
 use Rattle.h26x_access_units.proofs.ReceptionLemmas.{at_once, held_at_once, bare_stays}
 use Rattle.h26x_reorder.proofs.BeyondLemmas.{both_of, beyond_held, two_last}
 use Rattle.h26x_access_units.specs.Account.{ReceiverCall, PushCall, BackCall, NextCall, LackCall, FinishCall, RestartCall, SettingsCall, BeginCall, IsCall, AreReceiverCalls, no_call, one_call, kept_packets, may_drop, Account, no_account, packet_alone, AreInTurnBack, AreStreams, no_stream, one_stream, IsDueBehind, IsAccounted, IsAssemblerOf, new_assembler, one_taken, unit_ended, stream_ended, number_told, rest_dropped, texts_given, texts_of, IsEachAccounted, AreHandedInOrder, tells_twice, tells_stray, tells_anew, tells_late, ends_stream, call_count, stray_packets, drops_all, AreDroppedStrays}
@@ -483,8 +486,12 @@ texts_more (unit ∷ units) more_units = elim (bears_nothing unit.bytes) as (λ 
       | false ↦ ap (λ (l : List (ℕ × List ℕ)). (unit.timestamp, unit.bytes) ∷ l) (texts_more units more_units)
     ]
 
--- so of an assembler that began with this depacketizer
-module _ (state : DepacketizerState) (all : Packets) (told : List ℕ) where
+-- a receiver that is as a new one but for its counts and limits
+abbrev pub as_new : DepacketizerState → AccessUnitConfig → Counts → ℕ → ℕ → Reception
+as_new state config c run unit = reception (fresh_jitter config) None false none_passed (open_assembly state None none_open []) fresh_framing fresh_numbers fresh_decoder c run unit
+
+-- so of an assembler that began with this depacketizer, behind so many calls
+module _ (state : DepacketizerState) (all : Packets) (told : List ℕ) (past : ℕ) where
   -- what an assembler brings of these packets, of which these texts were given out
   record Made (texts : List (ℕ × List ℕ)) (packets : Packets) (a : Assembly) : Type 0 where
     gone : List AccessUnitValue
@@ -722,7 +729,7 @@ module _ (state : DepacketizerState) (all : Packets) (told : List ℕ) where
   texts_few (SettingsCall config ∷ calls) = let rest = texts_few calls in omega (arith, rest)
   texts_few (BeginCall number ∷ calls) = let rest = texts_few calls in omega (arith, rest)
 
-  -- where fewer calls were made than a count goes to, the counts are of as many
+  -- where fewer calls were made than a count goes to, with those before, the counts are of as many
   record Exact (calls : List ReceiverCall) (texts : List (ℕ × List ℕ)) (packets : Packets) (c : Counts) : Type 0 where
     twice : c.twice ≡ call_count tells_twice calls
     stray : c.stray ≡ call_count tells_stray calls
@@ -732,7 +739,7 @@ module _ (state : DepacketizerState) (all : Packets) (told : List ℕ) where
     late : c.late ≡ call_count tells_late calls
 
   abbrev Counted : ℕ → List ReceiverCall → List (ℕ × List ℕ) → Packets → Counts → Type 0
-  Counted n calls texts packets c = n < 18446744073709551616 → Exact calls texts packets c
+  Counted n calls texts packets c = n + past < 18446744073709551616 → Exact calls texts packets c
 
   -- more are kept than were handed on, where one waits
   handed_few : (kept x h w : Packets) (p : Packet) → IsPermutation kept (x ++ (h ++ (p ∷ w))) → length h + 1 ≤ length kept
@@ -1553,26 +1560,26 @@ module _ (state : DepacketizerState) (all : Packets) (told : List ℕ) where
       subst (WholeOf (BeginCall number ∷ calls)) (sym it.1)
       (begin_whole (kept_packets calls) (list_any may_drop calls) (call_count ends_stream calls) (texts_given calls) (length calls) calls (kept_few calls) (texts_few calls) number s it.0 (omega arith) whole)
 
-  calls_whole : (config : AccessUnitConfig) (calls : List ReceiverCall) (s : Reception) → AreReceiverCalls (fresh_reception config state) calls s → WholeOf calls s
-  calls_whole config calls s no_call = record {
+  calls_whole : (config : AccessUnitConfig) (c : Counts) (run unit : ℕ) → Counted 0 [] [] [] c → (calls : List ReceiverCall) (s : Reception) → AreReceiverCalls (as_new state config c run unit) calls s → WholeOf calls s
+  calls_whole config c run unit counted calls s no_call = record {
     account = no_account;
     made = record { gone = []; made = new_assembler; texts_are = refl };
-    counted = λ lt. record { late = refl; twice = refl; stray = refl; anew = refl; units = refl; handed = refl };
+    counted = counted;
     expects = λ e. tt;
     strays = λ e. record { joined = []; each_once = IsPermutation-refl [] };
     quiet = λ x y. refl;
     parts = λ among. fresh_parts state all told false [] state refl;
     ledger = record { exact = IsPermutation-refl []; quiet = λ e. refl; turn = tt; before = no_stream; few = omega arith; due = tt; waits = refl; numbered = tt };
   }
-  calls_whole config calls s (one_call {call = call} {before = before} {t = t} others it) = call_whole call before t s it (calls_whole config before t others)
+  calls_whole config c run unit counted calls s (one_call {call = call} {before = before} {t = t} others it) = call_whole call before t s it (calls_whole config c run unit counted before t others)
 
-  accounted : (calls : List ReceiverCall) (s : Reception) → WholeOf calls s → IsAccounted state calls s
-  accounted calls s whole =
+  accounted : (calls : List ReceiverCall) (s : Reception) → (length calls < 18446744073709551616 → length calls + past < 18446744073709551616) → WholeOf calls s → IsAccounted state calls s
+  accounted calls s counts_to whole =
       let l = whole.ledger in
       record {
         account = whole.account;
         given = record { gone = whole.made.gone; made = whole.made.made; texts = whole.made.texts_are };
-        counts = λ lt. let it = whole.counted lt in record { late = it.late; twice = it.twice; stray = it.stray; anew = it.anew; units = it.units; handed = it.handed };
+        counts = λ lt. let it = whole.counted (counts_to lt) in record { late = it.late; twice = it.twice; stray = it.stray; anew = it.anew; units = it.units; handed = it.handed };
         each = record { exact = l.exact; none_dropped = l.quiet; strays = whole.strays };
         order = record { turn = l.turn; before = l.before; few = let few = l.few in omega (arith, few); due = l.due; waits = l.waits };
       }
@@ -1618,11 +1625,29 @@ module _ (state : DepacketizerState) (all : Packets) (told : List ℕ) where
       subst (λ (r : Reception). Tells (NextCall now (Some unit) ∷ calls) r unit) (sym it.stands)
       (given_tells calls now (without_bare (ended_if_over it.drained)) unit among it.unit_is told_whole_is (bare_whole kept drops most texts n calls (kept_few calls) (texts_few calls) (ended_if_over it.drained) over))
 
+no_counts_exact : (state : DepacketizerState) (all : Packets) (told : List ℕ) (past : ℕ) → Counted state all told past 0 [] [] [] no_counts
+no_counts_exact state all told past lt = record { late = refl; twice = refl; stray = refl; anew = refl; units = refl; handed = refl }
+
+fresh_whole : (state : DepacketizerState) (all : Packets) (told : List ℕ) (config : AccessUnitConfig) (calls : List ReceiverCall) (s : Reception) → AreReceiverCalls (fresh_reception config state) calls s → WholeOf state all told 0 calls s
+fresh_whole state all told config calls s are = calls_whole state all told 0 config no_counts config.run_limit config.unit_limit (no_counts_exact state all told 0) calls s are
+
 pub calls_accounted : (state : DepacketizerState) (config : AccessUnitConfig) (calls : List ReceiverCall) (s : Reception) → AreReceiverCalls (fresh_reception config state) calls s → IsAccounted state calls s
-calls_accounted state config calls s are = accounted state [] [] calls s (calls_whole state [] [] config calls s are)
+calls_accounted state config calls s are = accounted state [] [] 0 calls s (λ lt. omega (arith, lt)) (fresh_whole state [] [] config calls s are)
+
+-- since a receiver was as a new one what is told whole has all its packets
+pub begun_told_whole : (state : DepacketizerState) (config : AccessUnitConfig) (c : Counts) (run most now : ℕ) (unit : ReceivedAccessUnitValue) (calls : List ReceiverCall) (s : Reception) → AreReceiverCalls (as_new state config c run most) (NextCall now (Some unit) ∷ calls) s →
+    unit.is_whole ≡ true → IsToldWhole state (NextCall now (Some unit) ∷ calls) s unit
+begun_told_whole state config c run most now unit calls s (one_call {t = t} others it) whole =
+    let kept = kept_packets calls in
+    let numbers = told_numbers calls in
+    let past : ℕ = 18446744073709551616 in
+    let told = next_tells state kept numbers past calls now t s unit (record { packets = λ p is. is; numbers = λ number is. is }) it whole (calls_whole state kept numbers past config c run most (λ lt. absurd (omega (arith, lt))) calls t others) in
+    record { account = told.account; each = told.each; order = told.order; whole = told.whole }
 
 pub calls_told_whole : (state : DepacketizerState) (config : AccessUnitConfig) (now : ℕ) (unit : ReceivedAccessUnitValue) (calls : List ReceiverCall) (s : Reception) → AreReceiverCalls (fresh_reception config state) (NextCall now (Some unit) ∷ calls) s →
     unit.is_whole ≡ true → IsToldWhole state (NextCall now (Some unit) ∷ calls) s unit
-calls_told_whole state config now unit calls s (one_call {t = t} others it) whole =
-    let told = next_tells state (kept_packets calls) (told_numbers calls) calls now t s unit (record { packets = λ p is. is; numbers = λ number is. is }) it whole (calls_whole state (kept_packets calls) (told_numbers calls) config calls t others) in
-    record { account = told.account; each = told.each; order = told.order; whole = told.whole }
+calls_told_whole state config now unit calls s are whole = begun_told_whole state config no_counts config.run_limit config.unit_limit now unit calls s are whole
+
+-- whatever is called the depacketizer stays of its kind
+pub calls_kind : (state : DepacketizerState) (config : AccessUnitConfig) (calls : List ReceiverCall) (s : Reception) → AreReceiverCalls (fresh_reception config state) calls s → s.assembler.state ≡ state_with_run state s.assembler.state.run
+calls_kind state config calls s are = ((fresh_whole state (kept_packets calls) (told_numbers calls) config calls s are).parts (record { packets = λ p is. is; numbers = λ number is. is })).kind

@@ -6,6 +6,7 @@ pub mod JitterLemmas
 pub mod BitLemmas
 pub mod LostLemmas
 pub mod ContentLemmas
+pub mod SliceLemmas
 pub mod LimitLemmas
 pub mod ReceptionLemmas
 pub mod MissingLemmas
@@ -16,6 +17,7 @@ pub mod GivenLemmas
 pub mod WholeSentLemmas
 pub mod AccountLemmas
 pub mod SentLemmas
+pub mod RestartLemmas
 pub mod UnitsSentLemmas
 pub mod SteadyLemmas
 pub mod OpenUnitLemmas

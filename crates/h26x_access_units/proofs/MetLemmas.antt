@@ -1,5 +1,5 @@
 -- Packets that a receiver takes or passes over were kept.
-use Rattle.std.proofs.Common.{◌≡◌, ◌∙◌, ap, sym, subst, refl, ℕ, zero, suc, Bool, true, false, cond, List, [], ◌∷◌, ◌++◌, Option, Some, None, append_assoc, arith, inl, inr, Result, Ok, Err}
+use Rattle.std.proofs.Common.{◌≡◌, ◌∙◌, ap, sym, subst, refl, ℕ, zero, suc, ◌+◌, ◌≤◌, ◌<◌, Bool, true, false, cond, List, [], ◌∷◌, ◌++◌, length, Option, Some, None, append_assoc, arith, inl, inr, Result, Ok, Err}
 use Rattle.std.specs.Prelude.{◌==◌, ◌&&◌, nat_lt, slice_get, MatchBool, if◌then◌else◌}
 use Rattle.std.specs.List.{Contains}
 use Rattle.h26x_core.specs.Sequence.{distance_ahead, is_late}
@@ -16,8 +16,8 @@ use Rattle.h26x_access_units.specs.Numbers.{bears_nothing}
 use Rattle.h26x_access_units.specs.JitterBuffer.{JitterState, fresh_jitter, with_held_limit, may_tell_first, is_pressed, jitter_answer, after_jitter, with_packet, with_two, has_room_for}
 use Rattle.h26x_access_units.specs.Reception.{Reception, fresh_reception, begun_reception, has_no_unit, is_one_taken, is_taken_at_once, pushed_to, anew_of, held_with, after_reception, is_behind_missing, IsDueTaken, IsEndedBefore, ended_behind_missing, ended_by_content, bare_passed, without_bare_of, without_bare, IsDrained, none, bare, more, behind, ended_if_anew, ended_if_over, after_finish, without_given_of}
 use Rattle.h26x_access_units.specs.Account.{ReceiverCall, PushCall, BackCall, NextCall, LackCall, FinishCall, RestartCall, SettingsCall, BeginCall, IsCall, AreReceiverCalls, no_call, one_call, kept_packets}
-use Rattle.h26x_access_units.specs.WholeSent.{told_numbers, IsSentAt, CameFromSender}
-use Rattle.h26x_access_units.specs.ToldWhole.{Deed, TookPacket, PassedPacket, EndedBefore, EndedStream, ToldFirst, DroppedAll, packet_deed, drained_deeds, stream_deeds, push_deeds, call_deeds, all_deeds, is_stream_new, are_told_first, AreOfSender}
+use Rattle.h26x_access_units.specs.WholeSent.{told_numbers, since_restart, IsSentAt, CameFromSender}
+use Rattle.h26x_access_units.specs.ToldWhole.{Deed, TookPacket, PassedPacket, EndedBefore, EndedStream, ToldFirst, DroppedAll, packet_deed, drained_deeds, stream_deeds, push_deeds, call_deeds, all_deeds, is_stream_new, are_told_first, IsInTime, due_taken, due_passed, AreOfSender, none_done, took_packet, passed_packet, ended_before_packet, ended_its_stream, told_its_first, dropped_before}
 use Rattle.h26x_access_units.proofs.AccountLemmas.{first_is_due}
 
 abbrev Packet : Type 0
@@ -93,12 +93,13 @@ module _ (P : ℕ × RtpBody → Type 0) where
     held : All s.waiting.buffer.held
     alone : Alone s.stray
 
-  -- each packet that was met
+  -- each packet that was met since all was dropped
   abbrev AllMet : List Deed → Type 0
   AllMet [] = Unit {0}
   AllMet (TookPacket p ∷ ds) = P p × AllMet ds
   AllMet (PassedPacket p ∷ ds) = P p × AllMet ds
   AllMet (EndedBefore p ∷ ds) = P p × AllMet ds
+  AllMet (DroppedAll ∷ ds) = Unit {0}
   AllMet (deed ∷ ds) = AllMet ds
 
   deed_met : (p : Packet) (answer : Result Received PacketError) (ds : List Deed) → P p → AllMet ds → AllMet (packet_deed p answer ∷ ds)
@@ -179,7 +180,7 @@ module _ (P : ℕ × RtpBody → Type 0) where
       by (Some d) = waits.held
 
   -- after a call, where those that are kept by it are such
-  aside_waits : (now : ℕ) (s : Reception) (p : Packet) (answer : Pushed) (calls : List ReceiverCall) → ((q : Packet) → Contains (kept_packets (PushCall now p answer ∷ calls)) q → P q) → Waiting s → Waiting (after_reception now s p answer)
+  aside_waits : (now : ℕ) (s : Reception) (p : Packet) (answer : Pushed) (calls : List ReceiverCall) → ((q : Packet) → Contains (kept_packets (since_restart (PushCall now p answer ∷ calls))) q → P q) → Waiting s → Waiting (after_reception now s p answer)
   aside_waits now s p pushes.Held calls each waits = record { held = push_all s.waiting.buffer p (each p (zero, omega arith, refl)) waits.held; alone = waits.alone }
   aside_waits now s p (pushes.Late n) calls each waits = record { held = waits.held; alone = waits.alone }
   aside_waits now s p pushes.Twice calls each waits = record { held = waits.held; alone = waits.alone }
@@ -192,7 +193,7 @@ module _ (P : ℕ × RtpBody → Type 0) where
   push_met ds now s new true it met waits = let due = due_met now s new it waits in (deed_met it.packet it.answer ds due.0 met, due.1)
   push_met ds now s new false same met waits = (met, subst Waiting (sym same) waits)
 
-  call_met : (ds : List Deed) (calls : List ReceiverCall) (call : ReceiverCall) (s new : Reception) (it : IsCall call s new) → ((q : Packet) → Contains (kept_packets (call ∷ calls)) q → P q) → AllMet ds → Waiting s → AllMet (call_deeds call s new it ++ ds) × Waiting new
+  call_met : (ds : List Deed) (calls : List ReceiverCall) (call : ReceiverCall) (s new : Reception) (it : IsCall call s new) → ((q : Packet) → Contains (kept_packets (since_restart (call ∷ calls))) q → P q) → AllMet ds → Waiting s → AllMet (call_deeds call s new it ++ ds) × Waiting new
   call_met ds calls (PushCall now p answer) s new it each met waits = push_met ds now (after_reception now s p answer) new (is_taken_at_once s p) it.3 met (aside_waits now s p answer calls each waits)
   call_met ds calls (BackCall p reason) s new it each met waits = (met, subst Waiting (sym it.1) (record { held = waits.held; alone = waits.alone }))
   call_met ds calls (NextCall now one) s new it each met waits =
@@ -212,50 +213,101 @@ module _ (P : ℕ × RtpBody → Type 0) where
       let it = drained_met now (ended_if_anew (without_bare s)) new (anew ++ ds) taken (stream_met (without_bare s) (without_bare s).is_anew ds met) (anew_waits (without_bare s) (bare_met s waits)) in
       (subst AllMet (sym (append_assoc drained anew ds)) it.0, it.1)
   call_met ds calls FinishCall s new it each met waits = (met, subst Waiting (sym it) (record { held = waits.held; alone = waits.alone }))
-  call_met ds calls RestartCall s new it each met waits = (met, subst Waiting (sym it) (record { held = tt; alone = tt }))
+  call_met ds calls RestartCall s new it each met waits = (tt, subst Waiting (sym it) (record { held = tt; alone = tt }))
   call_met ds calls (SettingsCall config) s new it each met waits = (met, subst Waiting (sym it) (record { held = waits.held; alone = waits.alone }))
   call_met ds calls (BeginCall number) s new it each met waits = (
     elim (may_tell_first s.waiting) as (λ c. AllMet ((if c then ToldFirst number ∷ [] else []) ++ ds)) [ true ↦ met | false ↦ met ],
     subst Waiting (sym it.1) (begun_waits number s waits),
   )
 
-  -- those that were kept before
-  kept_before : (call : ReceiverCall) (calls : List ReceiverCall) → ((q : Packet) → Contains (kept_packets (call ∷ calls)) q → P q) → (q : Packet) → Contains (kept_packets calls) q → P q
-  kept_before (PushCall now p pushes.Held) calls each q (k, within, same) = each q (suc k, omega (arith, within), same)
-  kept_before (PushCall now p pushes.Stray) calls each q (k, within, same) = each q (suc k, omega (arith, within), same)
-  kept_before (PushCall now p pushes.Jumped) calls each q (k, within, same) = each q (suc k, omega (arith, within), same)
-  kept_before (PushCall now p pushes.Anew) calls each q (k, within, same) = each q (suc k, omega (arith, within), same)
-  kept_before (PushCall now p (pushes.Late n)) calls each q is = each q is
-  kept_before (PushCall now p pushes.Twice) calls each q is = each q is
-  kept_before (PushCall now p pushes.Full) calls each q is = each q is
-  kept_before (BackCall p reason) calls each q is = each q is
-  kept_before (NextCall now one) calls each q is = each q is
-  kept_before (LackCall now) calls each q is = each q is
-  kept_before FinishCall calls each q is = each q is
-  kept_before RestartCall calls each q is = each q is
-  kept_before (SettingsCall config) calls each q is = each q is
-  kept_before (BeginCall number) calls each q is = each q is
+  -- what is known of the calls before
+  abbrev Before : List ReceiverCall → List Deed → Reception → Type 0
+  Before calls ds s = ((q : Packet) → Contains (kept_packets (since_restart calls)) q → P q) → AllMet ds × Waiting s
 
-  calls_met : (config : AccessUnitConfig) (state : DepacketizerState) (calls : List ReceiverCall) (s : Reception) (are : AreReceiverCalls (fresh_reception config state) calls s) → ((q : Packet) → Contains (kept_packets calls) q → P q) → AllMet (all_deeds are) × Waiting s
+  calls_met : (config : AccessUnitConfig) (state : DepacketizerState) (calls : List ReceiverCall) (s : Reception) (are : AreReceiverCalls (fresh_reception config state) calls s) → Before calls (all_deeds are) s
   calls_met config state calls s no_call each = (tt, record { held = tt; alone = tt })
-  calls_met config state calls s (one_call {call = call} {before = before} {t = t} others it) each =
-      let rest = calls_met config state before t others (kept_before call before each) in
-      call_met (all_deeds others) before call t s it each rest.0 rest.1
+  calls_met config state calls s (one_call {call = call} {before = before} {t = t} others it) each = by call it each (calls_met config state before t others)
+    where
+      ds : List Deed
+      ds = all_deeds others
+
+      with_rest : (call : ReceiverCall) (it : IsCall call t s) → ((q : Packet) → Contains (kept_packets (since_restart (call ∷ before))) q → P q) → ((q : Packet) → Contains (kept_packets (since_restart before)) q → P q) → Before before ds t → AllMet (call_deeds call t s it ++ ds) × Waiting s
+      with_rest call it each rest met = let both = met rest in call_met ds before call t s it each both.0 both.1
+
+      by : (call : ReceiverCall) (it : IsCall call t s) → ((q : Packet) → Contains (kept_packets (since_restart (call ∷ before))) q → P q) → Before before ds t → AllMet (call_deeds call t s it ++ ds) × Waiting s
+      by (PushCall now p pushes.Held) it each met = with_rest (PushCall now p pushes.Held) it each (λ q (k, within, same). each q (suc k, omega (arith, within), same)) met
+      by (PushCall now p pushes.Stray) it each met = with_rest (PushCall now p pushes.Stray) it each (λ q (k, within, same). each q (suc k, omega (arith, within), same)) met
+      by (PushCall now p pushes.Jumped) it each met = with_rest (PushCall now p pushes.Jumped) it each (λ q (k, within, same). each q (suc k, omega (arith, within), same)) met
+      by (PushCall now p pushes.Anew) it each met = with_rest (PushCall now p pushes.Anew) it each (λ q (k, within, same). each q (suc k, omega (arith, within), same)) met
+      by (PushCall now p (pushes.Late n)) it each met = with_rest (PushCall now p (pushes.Late n)) it each each met
+      by (PushCall now p pushes.Twice) it each met = with_rest (PushCall now p pushes.Twice) it each each met
+      by (PushCall now p pushes.Full) it each met = with_rest (PushCall now p pushes.Full) it each each met
+      by (BackCall p reason) it each met = with_rest (BackCall p reason) it each each met
+      by (NextCall now one) it each met = with_rest (NextCall now one) it each each met
+      by (LackCall now) it each met = with_rest (LackCall now) it each each met
+      by FinishCall it each met = with_rest FinishCall it each each met
+      by RestartCall it each met = (tt, subst Waiting (sym it) (record { held = tt; alone = tt }))
+      by (SettingsCall config) it each met = with_rest (SettingsCall config) it each each met
+      by (BeginCall number) it each met = with_rest (BeginCall number) it each each met
 
 both_are : (x y : Bool) → (x && y) ≡ true → (x ≡ true) × (y ≡ true)
 both_are true y e = (refl, e)
 both_are false y e = absurd (let bad = e in cc)
 
--- where numbers were told only of streams that begin
-of_sender : (sent : List RtpBody) (first : ℕ) (ds : List Deed) → AllMet (IsSentAt sent first) ds → are_told_first ds ≡ true → AreOfSender sent first ds
-of_sender sent first [] met told = tt
-of_sender sent first (TookPacket p ∷ ds) met told = (met.0, of_sender sent first ds met.1 told)
-of_sender sent first (PassedPacket p ∷ ds) met told = (met.0, of_sender sent first ds met.1 told)
-of_sender sent first (EndedBefore p ∷ ds) met told = (met.0, of_sender sent first ds met.1 told)
-of_sender sent first (ToldFirst number ∷ ds) met told = let both = both_are (is_stream_new ds) (are_told_first ds) told in (both.0, of_sender sent first ds met both.1)
-of_sender sent first (EndedStream ∷ ds) met told = of_sender sent first ds met told
-of_sender sent first (DroppedAll ∷ ds) met told = of_sender sent first ds met told
+-- half of the numbers at most, so that each packet comes in time
+abbrev IsWithinHalf : Option ℕ → Type 0
+IsWithinHalf None = Unit {0}
+IsWithinHalf (Some due) = due ≤ 32768
 
-pub done_of_sender : (config : AccessUnitConfig) (state : DepacketizerState) (calls : List ReceiverCall) (s : Reception) (sent : List RtpBody) (first : ℕ) (are : AreReceiverCalls (fresh_reception config state) calls s) → CameFromSender (told_numbers calls) (kept_packets calls) state sent first →
-    are_told_first (all_deeds are) ≡ true → AreOfSender sent first (all_deeds are)
-done_of_sender config state calls s sent first are came told = of_sender sent first (all_deeds are) (calls_met (IsSentAt sent first) config state calls s are came.packets).0 told
+module _ (sent : List RtpBody) (first : ℕ) (few : length sent ≤ 32768) where
+  in_time_half : (due : Option ℕ) (at : ℕ) → at < length sent → IsWithinHalf due → IsInTime due at
+  in_time_half None at lt half = tt
+  in_time_half (Some due) at lt half = (omega (arith, lt, few), omega (arith, half))
+
+  taken_half : (due : Option ℕ) (at : ℕ) → at < length sent → IsWithinHalf due → due_taken due at ≤ 32768
+  taken_half None at lt half = omega (arith, lt, few)
+  taken_half (Some due) at lt half = elim (nat_lt at due) as (λ c. cond c due (at + 1) ≤ 32768) [ true ↦ half | false ↦ omega (arith, lt, few) ]
+
+  passed_half : (due : Option ℕ) (at : ℕ) → at < length sent → IsWithinHalf due → IsWithinHalf (due_passed due at)
+  passed_half None at lt half = tt
+  passed_half (Some due) at lt half = taken_half (Some due) at lt half
+
+  abbrev OfSender : List Deed → Type 0
+  OfSender ds = (due : Option ℕ) × IsWithinHalf due × AreOfSender sent first due ds
+
+  new_none : (due : Option ℕ) (ds : List Deed) → is_stream_new ds ≡ true → AreOfSender sent first due ds → AreOfSender sent first None ds
+  new_none due [] e none_done = none_done
+  new_none due (EndedStream ∷ ds) e (ended_its_stream of) = ended_its_stream of
+  new_none due (DroppedAll ∷ ds) e (dropped_before before) = dropped_before before
+  new_none due (TookPacket p ∷ ds) e of = absurd (let bad = e in cc)
+  new_none due (PassedPacket p ∷ ds) e of = absurd (let bad = e in cc)
+  new_none due (EndedBefore p ∷ ds) e of = absurd (let bad = e in cc)
+  new_none due (ToldFirst number ∷ ds) e of = absurd (let bad = e in cc)
+
+  -- where numbers were told only of streams that begin
+  of_sender : (ds : List Deed) → AllMet (IsSentAt sent first) ds → are_told_first ds ≡ true → OfSender ds
+  of_sender [] met told = (None, tt, none_done)
+  of_sender (TookPacket p ∷ ds) met told =
+      let (due, half, of) = of_sender ds met.1 told in
+      let at = met.0 in
+      (Some (due_taken due at.place), taken_half due at.place at.within half, took_packet p at (in_time_half due at.place at.within half) of)
+  of_sender (PassedPacket p ∷ ds) met told =
+      let (due, half, of) = of_sender ds met.1 told in
+      let at = met.0 in
+      (due_passed due at.place, passed_half due at.place at.within half, passed_packet p at (in_time_half due at.place at.within half) of)
+  of_sender (EndedBefore p ∷ ds) met told =
+      let (due, half, of) = of_sender ds met.1 told in
+      let at = met.0 in
+      (None, tt, ended_before_packet p at (in_time_half due at.place at.within half) of)
+  of_sender (ToldFirst number ∷ ds) met told =
+      let both = both_are (is_stream_new ds) (are_told_first ds) told in
+      let (due, half, of) = of_sender ds met both.1 in
+      (None, tt, told_its_first number both.0 (new_none due ds both.0 of))
+  of_sender (EndedStream ∷ ds) met told = let (due, half, of) = of_sender ds met told in (None, tt, ended_its_stream of)
+  of_sender (DroppedAll ∷ ds) met told = (None, tt, dropped_before ds)
+
+pub done_of_sender : (config : AccessUnitConfig) (state : DepacketizerState) (calls : List ReceiverCall) (s : Reception) (sent : List RtpBody) (first : ℕ) (are : AreReceiverCalls (fresh_reception config state) calls s) →
+    CameFromSender (told_numbers (since_restart calls)) (kept_packets (since_restart calls)) state sent first → are_told_first (all_deeds are) ≡ true → (due : Option ℕ) × AreOfSender sent first due (all_deeds are)
+done_of_sender config state calls s sent first are came told =
+    let (due, half, of) = of_sender sent first came.few (all_deeds are) (calls_met (IsSentAt sent first) config state calls s are came.packets).0 told in
+    (due, of)

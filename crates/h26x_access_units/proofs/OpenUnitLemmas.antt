@@ -26,7 +26,7 @@ use Rattle.h26x_access_units.specs.Numbers.{missing_sum, unit_numbers, numbers_w
 use Rattle.h26x_access_units.specs.Framing.{believes, framing_marked}
 use Rattle.h26x_access_units.specs.Reception.{begun_for, expected_for, marker_forgotten, framing_of, believed, ends_before}
 use Rattle.h26x_access_units.specs.WholeSent.{bears_slice, nothing_written, sent_at, sent_number, sent_payloads, IsSentAt, IsSender}
-use Rattle.h26x_access_units.specs.ToldWhole.{Deed, TookPacket, sent_text, IsUnitSent, IsBegunSo, behind_packet, as_first_told, by_front, by_first_front, AreOfSender}
+use Rattle.h26x_access_units.specs.ToldWhole.{IsInTime, due_taken, Deed, TookPacket, sent_text, IsUnitSent, IsBegunSo, behind_packet, as_first_told, by_front, by_first_front, is_stream_new, ToldFirst, AreOfSender, told_its_first}
 use Rattle.h26x_access_units.proofs.WholeSentLemmas.{same_number, left_true, kind_with}
 use Rattle.h26x_access_units.proofs.SentLemmas.{one_more, next_place}
 use Rattle.h26x_access_units.proofs.SteadyLemmas.{SameStamp, own_same, unit_stamp, Steady, in_turn, not_closed, text_is, took_steady, new_closed}
@@ -204,7 +204,7 @@ module _ (state : DepacketizerState) (sent : List RtpBody) (first : ℕ) (sender
         ∙ ap (made ts (w (k + 1))) whole
 
   -- once its packet was taken
-  module _ (ds : List Deed) (a : Assembly) (f : Framing) (n : NumbersSoFar) (d : DecoderState) (most limit k missing : ℕ) (lt : k < count) (sent_is : IsSentAt sent first (at k)) (st : Steady state sent first sender ds a f n d) (is_next : ends_before a f (at k) ≡ false) (timely : is_late (begun_for a (at k)).expected (sent_number first (place + k)) ≡ false)
+  module _ (due : Option ℕ) (ds : List Deed) (a : Assembly) (f : Framing) (n : NumbersSoFar) (d : DecoderState) (most limit k missing : ℕ) (lt : k < count) (sent_is : IsSentAt sent first (at k)) (in_time : IsInTime due sent_is.place) (st : Steady state sent first sender due ds a f n d) (is_next : ends_before a f (at k) ≡ false) (timely : is_late (begun_for a (at k)).expected (sent_number first (place + k)) ≡ false)
       (by_work : taken_by (begun_for a (at k)) (sent_at sent (place + k)).timestamp ≡ with_expected (w k) (Some (sent_number first (place + k))))
       (is_new : (unit_at a.unit (sent_at sent (place + k)).timestamp).is_whole ≡ true) (stamp : (unit_at a.unit (sent_at sent (place + k)).timestamp).timestamp ≡ ts) (present : a.is_gap ≡ false) (expects : expected_for a.expected (at k) ≡ Some (sent_number first (place + k)))
       (unbroken : is_unit_broken (w k) (w (k + 1)) (sent_at sent (place + k)).payload ≡ false) (run_short : nat_lt most (run_len (w (k + 1)).state.run) ≡ false) (text_short : nat_lt limit (length (w (k + 1)).out) ≡ false) (is_closed : k + 1 ≡ count → is_run_closed (w count).state.run ≡ true) where
@@ -243,8 +243,8 @@ module _ (state : DepacketizerState) (sent : List RtpBody) (first : ℕ) (sender
       ended = (b.ended ++ ended_by b p) ++ (if c then whole_if (is_run_closed (after_taken_packet most (taken_by b p.1.timestamp) p.0 p.1.payload).at_work.state.run) (unit_with most b p) ∷ [] else []);
     }) (framing_marked g m) (record (after_packet n p missing) { unit = if c then None else Some own; ended_by_marker = if c then Some own else None }) d
 
-    new_steady : Steady state sent first sender (TookPacket (at k) ∷ ds) (marker_forgotten (with_unit_within limit (after_taken_rtp most b p))) (framing_marked g m) (after_packet (numbers_still g.stands_still n) p missing) d
-    new_steady = took_steady state sent first sender ds a f n d (at k) most limit missing sent_is st is_next timely
+    new_steady : Steady state sent first sender (Some (due_taken due sent_is.place)) (TookPacket (at k) ∷ ds) (marker_forgotten (with_unit_within limit (after_taken_rtp most b p))) (framing_marked g m) (after_packet (numbers_still g.stands_still n) p missing) d
+    new_steady = took_steady state sent first sender due ds a f n d (at k) most limit missing sent_is in_time st is_next timely
 
     is_last : (sent_at sent (place + k)).marker ≡ true → k + 1 ≡ count
     is_last marker = elim (nat_lt (k + 1) count) as (λ c. nat_lt (k + 1) count ≡ c → k + 1 ≡ count) [
@@ -331,7 +331,7 @@ module _ (state : DepacketizerState) (sent : List RtpBody) (first : ℕ) (sender
       Now k (marker_forgotten (with_unit_within limit (after_taken_rtp most b q))) (framing_marked g q.1.marker) (after_packet (numbers_still g.stands_still n) q missing) d
 
   -- a packet more of it
-  module _ (ds : List Deed) (a : Assembly) (f : Framing) (n : NumbersSoFar) (d : DecoderState) (most limit k missing : ℕ) (lt : k < count) (sent_is : IsSentAt sent first (at k)) (st : Steady state sent first sender ds a f n d) (is_next : ends_before a f (at k) ≡ false)
+  module _ (due : Option ℕ) (ds : List Deed) (a : Assembly) (f : Framing) (n : NumbersSoFar) (d : DecoderState) (most limit k missing : ℕ) (lt : k < count) (sent_is : IsSentAt sent first (at k)) (in_time : IsInTime due sent_is.place) (st : Steady state sent first sender due ds a f n d) (is_next : ends_before a f (at k) ≡ false)
       (timely : is_late (begun_for a (at k)).expected (sent_number first (place + k)) ≡ false) (empty : a.ended ≡ []) (short : Short most limit k) where
     abbrev stamp_k : ℕ
     stamp_k = (sent_at sent (place + k)).timestamp
@@ -349,7 +349,7 @@ module _ (state : DepacketizerState) (sent : List RtpBody) (first : ℕ) (sender
     work_by u r e = sequenced_depacketization (state_with_run r (if is_unit_at u stamp_k then r.run else None)) e (unit_at u stamp_k).bytes (unit_at u stamp_k).extra
 
     still_is : numbers_still gg.stands_still n ≡ n
-    still_is = ap (λ (c : Bool). numbers_still c n) (took_steady state sent first sender ds a f n d (at k) most limit missing sent_is st is_next timely).still
+    still_is = ap (λ (c : Bool). numbers_still c n) (took_steady state sent first sender due ds a f n d (at k) most limit missing sent_is in_time st is_next timely).still
 
     with_still : Now (k + 1) (marker_forgotten (with_unit_within limit (after_taken_rtp most bb pp))) (framing_marked gg pp.1.marker) (after_packet n pp missing) d → After most limit missing (k + 1) a f n d (at k)
     with_still it = subst (λ (x : NumbersSoFar). Now (k + 1) (marker_forgotten (with_unit_within limit (after_taken_rtp most bb pp))) (framing_marked gg pp.1.marker) (after_packet x pp missing) d) (sym still_is) it
@@ -372,7 +372,7 @@ module _ (state : DepacketizerState) (sent : List RtpBody) (first : ℕ) (sender
         let none_ended : numbers_ended n.unit stamp_k ≡ None = ap (λ (u : Option AccessUnitNumbers). numbers_ended u stamp_k) it.numbers_are ∙ rw same_numbers refl in
         let ended_none : bb.ended ++ ended_by bb pp ≡ [] = rw (at_unit, empty) refl in
         let follows_is : own.follows ≡ it.numbers.follows = ap (λ (x : AccessUnitNumbers). x.follows) own_is in
-        with_still (taken_on ds a f n d most limit k missing lt sent_is st is_next timely by_work is_new (unit_stamp a.unit stamp_k ∙ unit.stamps k lt) it.present expects short.unbroken short.run short.text short.closed
+        with_still (taken_on due ds a f n d most limit k missing lt sent_is in_time st is_next timely by_work is_new (unit_stamp a.unit stamp_k ∙ unit.stamps k lt) it.present expects short.unbroken short.run short.text short.closed
         (ap (λ (x : AccessUnitNumbers). x.continues) own_is ∙ it.alone) (ap (λ (x : AccessUnitNumbers). x.first) own_is ∙ it.first_is) (ap (λ (x : AccessUnitNumbers). x.timestamp) own_is ∙ it.stamp)
         [] ended_none (inl (refl, none_ended)) (tells follows_is none_ended it.tells) (λ j less bears. slices at_unit j (split_less j k less) bears))
       where
@@ -385,31 +385,35 @@ module _ (state : DepacketizerState) (sent : List RtpBody) (first : ℕ) (sender
         slices at_unit j (inr same) bears = or_right (is_unit_at a.unit stamp_k && f.has_slice) (bears_slice a.state.format (sent_at sent (place + k)).payload)
             (shows_slice a (sent_at sent (place + k)).payload st.kind (subst (λ (x : ℕ). bears_slice state.format (sent_at sent (place + x)).payload ≡ true) same bears))
 
+  -- a number is told of a stream that begins
+  told_new : (due : Option ℕ) (number : ℕ) (ds : List Deed) → AreOfSender sent first due (ToldFirst number ∷ ds) → is_stream_new ds ≡ true
+  told_new due number ds (told_its_first n is_new of) = is_new
+
   -- before its first packet no access unit of its timestamp is open
-  other_open : (ds : List Deed) (a : Assembly) (f : Framing) (n : NumbersSoFar) (d : DecoderState) → Steady state sent first sender ds a f n d → AreOfSender sent first ds → IsBegunSo state sent first place (w count) ds → is_unit_at a.unit ts ≡ true → ⊥
-  other_open ds a f n d st of (behind_packet j before place_is) opened = let same = st.opened ts opened in unit.front j place_is (let t : Some (sent_at sent j).timestamp ≡ Some ts = same in cc)
-  other_open ds a f n d st of (as_first_told before) opened = let bad = sym (new_closed state sent first sender before of.0) ∙ st.opened ts opened in cc
-  other_open ds a f n d st of (by_front before apart front) opened = subst (λ (x : Option ℕ). IsOtherStamp x ts) (st.opened ts opened) apart refl
-  other_open ds a f n d st of (by_first_front before none front) opened = let bad = sym (ap (λ (u : Option AccessUnitValue). is_unit_at u ts) (st.none none).0) ∙ opened in cc
+  other_open : (due : Option ℕ) (ds : List Deed) (a : Assembly) (f : Framing) (n : NumbersSoFar) (d : DecoderState) → Steady state sent first sender due ds a f n d → AreOfSender sent first due ds → IsBegunSo state sent first place (w count) ds → is_unit_at a.unit ts ≡ true → ⊥
+  other_open due ds a f n d st of (behind_packet j before place_is) opened = let same = st.opened ts opened in unit.front j place_is (let t : Some (sent_at sent j).timestamp ≡ Some ts = same in cc)
+  other_open due ds a f n d st of (as_first_told before) opened = let bad = sym (new_closed state sent first sender before (told_new due (sent_number first place) before of)) ∙ st.opened ts opened in cc
+  other_open due ds a f n d st of (by_front before apart front) opened = subst (λ (x : Option ℕ). IsOtherStamp x ts) (st.opened ts opened) apart refl
+  other_open due ds a f n d st of (by_first_front before none front) opened = let bad = sym (ap (λ (u : Option AccessUnitValue). is_unit_at u ts) (st.none none).0) ∙ opened in cc
 
   -- and it is told whole, whether by what is before it or by what it begins with
-  begun_tells : (ds : List Deed) (a : Assembly) (f : Framing) (n : NumbersSoFar) (d : DecoderState) (missing : ℕ) → missing ≡ 0 → Steady state sent first sender ds a f n d → AreOfSender sent first ds → IsBegunSo state sent first place (w count) ds →
+  begun_tells : (due : Option ℕ) (ds : List Deed) (a : Assembly) (f : Framing) (n : NumbersSoFar) (d : DecoderState) (missing : ℕ) → missing ≡ 0 → Steady state sent first sender due ds a f n d → AreOfSender sent first due ds → IsBegunSo state sent first place (w count) ds →
       Always (n.has_begun && (missing_sum n.skipped_gap missing == 0)) ⊎ ((Tells d (n.has_begun && (missing_sum n.skipped_gap missing == 0)) ≡ true) × (a.unit ≡ None))
-  begun_tells ds a f n d missing none_missing st of (behind_packet j before place_is) = let last = st.last in inl (λ x. rw (last.2, last.3, none_missing) refl)
-  begun_tells ds a f n d missing none_missing st of (as_first_told before) = let last = st.last in inl (λ x. rw (last.2, last.3, none_missing) refl)
-  begun_tells ds a f n d missing none_missing st of (by_front before apart front) = inl (λ x. or_right (n.has_begun && (missing_sum n.skipped_gap missing == 0)) _ (front x))
-  begun_tells ds a f n d missing none_missing st of (by_first_front before none front) = inr (or_right (n.has_begun && (missing_sum n.skipped_gap missing == 0)) _ (front_same d (w count).extra (content_of state.is_avc (w count).extra (w count).out).first (st.none none).2 ∙ front), (st.none none).0)
+  begun_tells due ds a f n d missing none_missing st of (behind_packet j before place_is) = let last = st.last in inl (λ x. rw (last.2, last.3, none_missing) refl)
+  begun_tells due ds a f n d missing none_missing st of (as_first_told before) = let last = st.last in inl (λ x. rw (last.2, last.3, none_missing) refl)
+  begun_tells due ds a f n d missing none_missing st of (by_front before apart front) = inl (λ x. or_right (n.has_begun && (missing_sum n.skipped_gap missing == 0)) _ (front x))
+  begun_tells due ds a f n d missing none_missing st of (by_first_front before none front) = inr (or_right (n.has_begun && (missing_sum n.skipped_gap missing == 0)) _ (front_same d (w count).extra (content_of state.is_avc (w count).extra (w count).out).first (st.none none).2 ∙ front), (st.none none).0)
 
   -- its first packet
-  pub begin_on : (ds : List Deed) (a : Assembly) (f : Framing) (n : NumbersSoFar) (d : DecoderState) (most limit k missing : ℕ) → k ≡ 0 → (lt : k < count) → (sent_is : IsSentAt sent first (at k)) → (st : Steady state sent first sender ds a f n d) → (is_next : ends_before a f (at k) ≡ false) →
-      (timely : is_late (begun_for a (at k)).expected (sent_number first (place + k)) ≡ false) → missing ≡ missing_count (begun_for a (at k)).expected (sent_number first (place + k)) → a.ended ≡ [] → Short most limit k → AreOfSender sent first ds → IsBegunSo state sent first place (w count) ds → After most limit missing (k + 1) a f n d (at k)
-  begin_on ds a f n d most limit k missing k_is lt sent_is st is_next timely missing_is empty short of begun =
+  pub begin_on : (due : Option ℕ) (ds : List Deed) (a : Assembly) (f : Framing) (n : NumbersSoFar) (d : DecoderState) (most limit k missing : ℕ) → k ≡ 0 → (lt : k < count) → (sent_is : IsSentAt sent first (at k)) → IsInTime due sent_is.place → (st : Steady state sent first sender due ds a f n d) → (is_next : ends_before a f (at k) ≡ false) →
+      (timely : is_late (begun_for a (at k)).expected (sent_number first (place + k)) ≡ false) → missing ≡ missing_count (begun_for a (at k)).expected (sent_number first (place + k)) → a.ended ≡ [] → Short most limit k → AreOfSender sent first due ds → IsBegunSo state sent first place (w count) ds → After most limit missing (k + 1) a f n d (at k)
+  begin_on due ds a f n d most limit k missing k_is lt sent_is in_time st is_next timely missing_is empty short of begun =
       let t = (sent_at sent (place + k)).timestamp in
       let place_is : place + k ≡ place = omega (arith, k_is) in
       let t_is : ts ≡ t = ap (λ (x : ℕ). (sent_at sent x).timestamp) (sym place_is) in
       let b = begun_for a (at k) in
       let q = believed (framing_of b f n (at k)) (at k) in
-      let other : is_unit_at a.unit t ≡ false = subst (λ (x : ℕ). is_unit_at a.unit x ≡ false) t_is (no_true (is_unit_at a.unit ts) (other_open ds a f n d st of begun)) in
+      let other : is_unit_at a.unit t ≡ false = subst (λ (x : ℕ). is_unit_at a.unit x ≡ false) t_is (no_true (is_unit_at a.unit ts) (other_open due ds a f n d st of begun)) in
       let turn = in_turn state sent first sender a f (at k) other (text_is state sent first sender (at k) sent_is) is_next timely st.no_gap in
       let number = sent_number first (place + k) in
       let start : w k ≡ nothing_written state = ap w k_is ∙ w_none in
@@ -423,13 +427,13 @@ module _ (state : DepacketizerState) (sent : List RtpBody) (first : ℕ) (sender
       let own_is = begun_is a.unit n.unit n q (missing_sum n.skipped_gap missing) st.sync other in
       let none_missing : missing ≡ 0 = missing_is ∙ ap (λ (e : Option ℕ). missing_count e number) turn.expects ∙ own_distance first (place + k) in
       let holds = follows b q && is_run_closed b.state.run in
-      with_still ds a f n d most limit k missing lt sent_is st is_next timely empty short
-      (taken_on ds a f n d most limit k missing lt sent_is st is_next timely by_work is_new (unit_stamp a.unit t ∙ sym t_is) turn.present turn.expects short.unbroken short.run short.text short.closed
-      (ap (λ (x : AccessUnitNumbers). x.continues) own_is ∙ not_closed state sent first sender a f n (at k) sent_is is_next timely st.no_gap st.marked)
+      with_still due ds a f n d most limit k missing lt sent_is in_time st is_next timely empty short
+      (taken_on due ds a f n d most limit k missing lt sent_is in_time st is_next timely by_work is_new (unit_stamp a.unit t ∙ sym t_is) turn.present turn.expects short.unbroken short.run short.text short.closed
+      (ap (λ (x : AccessUnitNumbers). x.continues) own_is ∙ not_closed state sent first sender due a f n (at k) sent_is in_time is_next timely st.no_gap st.marked)
       (ap (λ (x : AccessUnitNumbers). x.first) own_is ∙ ap (sent_number first) place_is)
       (ap (λ (x : AccessUnitNumbers). x.timestamp) own_is ∙ sym t_is)
       (given_out holds a.unit) (rw (other, empty) refl) (others_of holds a.unit n.unit t st.sync other)
-      (tells (ap (λ (x : AccessUnitNumbers). x.follows) own_is) holds (begun_tells ds a f n d missing none_missing st of begun))
+      (tells (ap (λ (x : AccessUnitNumbers). x.follows) own_is) holds (begun_tells due ds a f n d missing none_missing st of begun))
       (λ j less bears. or_right (is_unit_at a.unit t && f.has_slice) (bears_slice a.state.format (sent_at sent (place + k)).payload)
       (shows_slice a (sent_at sent (place + k)).payload st.kind (subst (λ (x : ℕ). bears_slice state.format (sent_at sent x).payload ≡ true) (omega (arith, k_is, less)) bears))))
     where
@@ -450,16 +454,16 @@ module _ (state : DepacketizerState) (sent : List RtpBody) (first : ℕ) (sender
       )
 
   -- the packet behind it, which has another timestamp
-  pub next_ends : (ds : List Deed) (a : Assembly) (f : Framing) (n : NumbersSoFar) (d : DecoderState) (most limit missing : ℕ) → place + count < length sent → (sent_is : IsSentAt sent first (at count)) → (st : Steady state sent first sender ds a f n d) → (is_next : ends_before a f (at count) ≡ false) →
+  pub next_ends : (due : Option ℕ) (ds : List Deed) (a : Assembly) (f : Framing) (n : NumbersSoFar) (d : DecoderState) (most limit missing : ℕ) → place + count < length sent → (sent_is : IsSentAt sent first (at count)) → IsInTime due sent_is.place → (st : Steady state sent first sender due ds a f n d) → (is_next : ends_before a f (at count) ≡ false) →
       (timely : is_late (begun_for a (at count)).expected (sent_number first (place + count)) ≡ false) → a.ended ≡ [] → is_run_closed (w count).state.run ≡ true → Open count a f n d →
       let b = begun_for a (at count) in let g = framing_of b f n (at count) in let q = believed g (at count) in
       WaitsIn d (with_unit_within limit (after_taken_rtp most b q)).ended (after_packet (numbers_still g.stands_still n) q missing).ended (after_packet (numbers_still g.stands_still n) q missing).ended_by_marker
-  next_ends ds a f n d most limit missing lt sent_is st is_next timely empty closed it =
+  next_ends due ds a f n d most limit missing lt sent_is in_time st is_next timely empty closed it =
       let t = (sent_at sent (place + count)).timestamp in
       let b = begun_for a (at count) in
       let g = framing_of b f n (at count) in
       let q = believed g (at count) in
-      let still = (took_steady state sent first sender ds a f n d (at count) most limit missing sent_is st is_next timely).still in
+      let still = (took_steady state sent first sender due ds a f n d (at count) most limit missing sent_is in_time st is_next timely).still in
       let new : (ts == t) ≡ false = not_same ts t (λ same. unit.back lt (sym same)) in
       let other : is_unit_at a.unit t ≡ false = ap (λ (u : Option AccessUnitValue). is_unit_at u t) it.unit_is ∙ new in
       let expects : b.expected ≡ Some (sent_number first (place + count)) = ap (λ (e : Option ℕ). expected_for e (at count)) it.expects in

@@ -32,7 +32,7 @@ use Rattle.h26x_access_units.specs.Pushed.{as_pushed}
 use Rattle.h26x_access_units.specs.Numbers.{bears_nothing, numbers_closed, numbers_carrying, after_last, after_missing, first_ended, without_first_ended}
 use Rattle.h26x_access_units.specs.JitterBuffer.{JitterState, reach, is_far, is_ahead, is_full, is_pressed, awaited_number, awaited, due_packet, with_packet, without_due}
 use Rattle.h26x_access_units.specs.ReceivedAccessUnit.{ReceivedAccessUnitValue, received_unit, decoder_with, whole_with}
-use Rattle.h26x_access_units.specs.Reception.{Reception, reception, assembly_after, is_behind_missing, is_in_reach, shown_of, ends_before, is_one_taken, begins_still, counts_answered, after_due, is_repeat, is_too_far, way_of, answer_on, reception_answer, after_reception, has_no_unit, has_bare, bare_passed, first_passed, first_passed_of, without_bare, without_bare_of, is_taken_at_once, is_idle, after_finish, ended_if_anew, ended_if_over, unit_given_of, unit_given, without_given_of, without_given, IsDueTaken, IsPushed, IsDrained, none, bare, more, behind, IsEndedBefore, ended_behind_missing, ended_by_content, ended_before, IsDueTakenOrNone, FollowsWhereDue, IsEndedOrFollows, IsStepOrNone, IsStep, ended_alone, taken_alone, ended_and_taken, IsStepInPart, IsNext}
+use Rattle.h26x_access_units.specs.Reception.{Reception, reception, assembly_after, is_behind_missing, is_in_reach, shown_of, ends_before, is_one_taken, begins_still, counts_answered, after_due, is_repeat, is_too_far, way_of, answer_on, reception_answer, after_reception, has_no_unit, has_bare, has_unit, bare_passed, first_passed, first_passed_of, without_bare, without_bare_of, is_taken_at_once, is_idle, after_finish, ended_if_anew, ended_if_over, unit_given_of, unit_given, without_given_of, without_given, IsDueTaken, IsPushed, IsDrained, none, bare, more, behind, IsEndedBefore, ended_behind_missing, ended_by_content, ended_before, IsDueTakenOrNone, FollowsWhereDue, IsEndedOrFollows, IsStepOrNone, IsStep, ended_alone, taken_alone, ended_and_taken, IsStepInPart, IsNext}
 
 -- where nothing is held nothing is ready
 none_ready : (window : ℕ) (due : Option ℕ) → first_ready {A = RtpBody} window due [] ≡ None
@@ -487,6 +487,39 @@ bare_stays s = by s.assembler.ended
     by : (units : List AccessUnitValue) → has_bare units ≡ false → without_bare_of s units ≡ s
     by [] is = refl
     by (unit ∷ units) is = rw is refl
+
+-- what is known where the first that ended has bytes
+unit_parts : (units : List AccessUnitValue) → has_unit units ≡ true → (has_bare units ≡ false) × (has_no_unit units ≡ false)
+unit_parts [] is = absurd (let bad = is in cc)
+unit_parts (unit ∷ units) is = (by (bears_nothing unit.bytes) is, refl)
+  where
+    by : (b : Bool) → not b ≡ true → b ≡ false
+    by true e = absurd (let bad = e in cc)
+    by false e = refl
+
+-- then that is given out, and nothing else is done
+pub first_next : (now : ℕ) (s new : Reception) (unit : Option ReceivedAccessUnitValue) → has_unit s.assembler.ended ≡ true → unit ≡ unit_given s → new ≡ without_given s → IsNext now s new unit
+first_next now s new unit is given stands =
+    let at = unit_parts s.assembler.ended is in
+    let same : without_bare s ≡ s = bare_stays s at.0 in
+    let anew : ended_if_anew s ≡ s = anew_by (has_no_unit s.assembler.ended) at.1 in
+    let over : ended_if_over s ≡ s = over_by (has_no_unit s.assembler.ended) at.1 in
+    let whole : without_bare (ended_if_over s) ≡ s = ap without_bare over ∙ same in
+    record {
+      drained = s;
+      taken = subst (λ (r : Reception). IsDrained now r s) (sym (ap ended_if_anew same ∙ anew)) none;
+      until = λ empty. absurd (let bad = sym at.1 ∙ ap has_no_unit empty in cc);
+      unit_is = given ∙ sym (ap unit_given whole);
+      stands = stands ∙ sym (ap without_given whole);
+    }
+  where
+    anew_by : (b : Bool) → b ≡ false → cond (b && s.is_anew) (record s { is_anew = false; assembler = after_finishing s.assembler; framing = fresh_framing; numbers = after_last s.numbers }) s ≡ s
+    anew_by true e = absurd (let bad = e in cc)
+    anew_by false e = refl
+
+    over_by : (b : Bool) → b ≡ false → cond (b && s.waiting.is_over) (after_finish s) s ≡ s
+    over_by true e = absurd (let bad = e in cc)
+    over_by false e = refl
 
 -- no access unit has ended
 pub none_ended : (units : List AccessUnitValue) (has : Bool) → has ≡ not (has_no_unit units) → has ≡ false → units ≡ []

@@ -60,7 +60,7 @@ tail_in p q rest (k, within, same) = (suc k, omega (arith, within), same)
 
 module _ (r : DepacketizerState) (told : List ℕ) (kept : Packets) (sent : List RtpBody) (first : ℕ) (it : CameFromSender told kept r sent first) (goes : DepacketizerGoesOn (nothing_written r)) where
   few : length sent ≤ 32768
-  few = it.sender.few
+  few = it.few
 
   -- each packet of these is one that was sent
   abbrev AreSent : Packets → Type 0

@@ -1,9 +1,9 @@
 -- An access unit all of whose packets were taken is told whole.
-use Rattle.std.proofs.Common.{◌≡◌, ◌∙◌, ap, sym, subst, refl, ℕ, zero, suc, ◌+◌, ◌≤◌, ◌<◌, Bool, true, false, List, [], ◌∷◌, ◌++◌, length, Option, Some, None, arith, inl, inr, Result, Err}
-use Rattle.std.specs.Prelude.{nat_lt, ◌⊎◌}
+use Rattle.std.proofs.Common.{◌≡◌, ◌∙◌, ap, sym, subst, refl, ℕ, zero, suc, ◌+◌, ◌≤◌, ◌<◌, Bool, true, false, List, [], ◌∷◌, ◌++◌, length, Option, Some, None, arith, inl, inr, Result, Ok, Err}
+use Rattle.std.specs.Prelude.{nat_lt, ◌⊎◌, if◌then◌else◌}
 use Rattle.std.specs.List.{Contains}
 use Rattle.std.proofs.lemmas.Bool.Decides.{nat_tests}
-use Rattle.h26x_core.specs.Sequence.{is_late, missing_count}
+use Rattle.h26x_core.specs.Sequence.{next_sequence_number, is_late, missing_count}
 use Rattle.h26x_core.specs.declared.error.PacketError.{PacketError}
 use Rattle.h26x_core.specs.declared.error.PacketError.TheVariants.{OutOfMemory}
 use Rattle.h26x_model.specs.Carry.Laws.{DepacketizerGoesOn}
@@ -11,7 +11,7 @@ use Rattle.h26x_model.specs.Receive.DepacketizerState.{DepacketizerState, Depack
 use Rattle.h26x_model.specs.Receive.RunLimit.{run_len}
 use Rattle.h26x_receiver.specs.declared.received.Received.{Received}
 use Rattle.h26x_reorder.specs.Rtp.{RtpBody}
-use Rattle.h26x_assembler.specs.AccessUnit.{AccessUnitValue, Assembly, is_run_closed, is_unit_broken, with_unit_within, after_taken_rtp}
+use Rattle.h26x_assembler.specs.AccessUnit.{AccessUnitValue, Assembly, is_run_closed, is_unit_broken, with_unit_within, after_taken_rtp, behind_missing}
 use Rattle.h26x_access_units.specs.declared.numbers.AccessUnitNumbers.{AccessUnitNumbers}
 use Rattle.h26x_access_units.specs.declared.numbers.NumbersSoFar.{NumbersSoFar}
 use Rattle.h26x_access_units.specs.declared.framing.Framing.{Framing}
@@ -19,11 +19,11 @@ use Rattle.h26x_access_units.specs.declared.decoder.DecoderState.{DecoderState}
 use Rattle.h26x_access_units.specs.Framing.{framing_marked}
 use Rattle.h26x_access_units.specs.Content.{content_of}
 use Rattle.h26x_access_units.specs.Decoder.{tells_whole}
-use Rattle.h26x_access_units.specs.Numbers.{bears_nothing, after_packet, numbers_still, without_first_ended, without_ended_of, numbers_carrying, first_ended, first_of_ended}
+use Rattle.h26x_access_units.specs.Numbers.{bears_nothing, after_gap, after_packet, numbers_still, without_first_ended, without_ended_of, numbers_carrying, first_ended, first_of_ended}
 use Rattle.h26x_access_units.specs.ReceivedAccessUnit.{ReceivedAccessUnitValue, received_unit}
-use Rattle.h26x_access_units.specs.Reception.{begun_for, marker_forgotten, framing_of, framing_answered, numbers_answered, believed, ends_before, IsAnswerTo, assembly_after}
+use Rattle.h26x_access_units.specs.Reception.{begun_for, is_one_taken, marker_forgotten, framing_of, framing_answered, numbers_answered, believed, ends_before, IsAnswerTo, assembly_after}
 use Rattle.h26x_access_units.specs.WholeSent.{bears_slice, nothing_written, sent_at, sent_number, sent_payloads, IsSentAt, IsSender, IsWrittenOf}
-use Rattle.h26x_access_units.specs.ToldWhole.{Deed, TookPacket, PassedPacket, DroppedAll, packet_deed, took_place, took_places, sent_text, IsUnitSent, IsBegunSo, IsEndedSo, by_own_marker, by_next, AreOfSender}
+use Rattle.h26x_access_units.specs.ToldWhole.{IsInTime, due_taken, due_passed, Deed, TookPacket, PassedPacket, DroppedAll, packet_deed, took_place, took_places, sent_text, IsUnitSent, IsBegunSo, IsEndedSo, by_own_marker, by_next, AreOfSender, took_packet, passed_packet}
 use Rattle.h26x_access_units.proofs.SteadyLemmas.{SameStamp, Steady, due_ways, took_steady, late_steady, refused_steady, gone_steady}
 use Rattle.h26x_access_units.proofs.OpenUnitLemmas.{Good, Second, WaitsIn, Open, Short, After, Always, Tells, begin_on, next_on, next_ends}
 
@@ -48,9 +48,6 @@ module _ (state : DepacketizerState) (sent : List RtpBody) (first : ℕ) (sender
 
   abbrev at : ℕ → Packet
   at k = (sent_number first (place + k), sent_at sent (place + k))
-
-  abbrev StoodBy : List Deed → Assembly → Framing → NumbersSoFar → DecoderState → Type 0
-  StoodBy ds a f n d = Steady state sent first sender ds a f n d
 
   abbrev OpenAt : ℕ → Assembly → Framing → NumbersSoFar → DecoderState → Type 0
   OpenAt k a f n d = Open state sent first sender place count unit goes k a f n d
@@ -161,8 +158,22 @@ module _ (state : DepacketizerState) (sent : List RtpBody) (first : ℕ) (sender
       by (suc c) is [] before e = let bad = e ∙ ap (λ (k : ℕ). took_places sent first place k ++ before) is in cc
       by (suc c) is (l ∷ later) before e = let bad = e in cc
 
-  pub record Both (ds : List Deed) (given : Units) (a : Assembly) (f : Framing) (n : NumbersSoFar) (d : DecoderState) : Type 0 where
-    pub steady : Steady state sent first sender ds a f n d
+  -- where all is dropped none of it was taken since
+  pub dropped_tale : (ds : List Deed) (given : Units) (a : Assembly) (f : Framing) (n : NumbersSoFar) (d : DecoderState) → Tale (DroppedAll ∷ ds) given a f n d
+  dropped_tale ds given a f n d = record {
+    going = λ k before e lt begun. absurd (let bad = e in cc);
+    done = λ later before e begun ended stays. absurd (by count refl later before e stays);
+  }
+    where
+      by : (c : ℕ) → count ≡ c → (later before : List Deed) → DroppedAll ∷ ds ≡ later ++ (took_places sent first place count ++ before) → (Contains later DroppedAll → ⊥) → ⊥
+      by zero is later before e stays = let some = unit.some in omega (arith, some, is)
+      by (suc c) is [] before e stays = let bad = e ∙ ap (λ (k : ℕ). took_places sent first place k ++ before) is in cc
+      by (suc c) is (l ∷ later) before e stays =
+          let head = same_head DroppedAll l ds (later ++ (took_places sent first place count ++ before)) e in
+          stays (subst (λ (x : Deed). Contains (x ∷ later) DroppedAll) head (at_front later))
+
+  pub record Both (due : Option ℕ) (ds : List Deed) (given : Units) (a : Assembly) (f : Framing) (n : NumbersSoFar) (d : DecoderState) : Type 0 where
+    pub steady : Steady state sent first sender due ds a f n d
     pub tale : Tale ds given a f n d
 
   -- what is written of it is within these limits
@@ -202,7 +213,7 @@ module _ (state : DepacketizerState) (sent : List RtpBody) (first : ℕ) (sender
         }
 
     -- a packet that is due
-    module _ (ds : List Deed) (given : Units) (a : Assembly) (f : Framing) (n : NumbersSoFar) (d : DecoderState) (most limit : ℕ) (within : Within most limit) (of : AreOfSender sent first ds) (empty : a.ended ≡ []) (it : Both ds given a f n d) where
+    module _ (due : Option ℕ) (ds : List Deed) (given : Units) (a : Assembly) (f : Framing) (n : NumbersSoFar) (d : DecoderState) (most limit : ℕ) (within : Within most limit) (of : AreOfSender sent first due ds) (empty : a.ended ≡ []) (it : Both due ds given a f n d) where
       abbrev Going_on : ℕ → Packet → Type 0
       Going_on k p = let b = begun_for a p in let g = framing_of b f n p in let q = believed g p in let missing = missing_count b.expected p.0 in
           Going k given (marker_forgotten (with_unit_within limit (after_taken_rtp most b q))) (framing_marked g q.1.marker) (after_packet (numbers_still g.stands_still n) q missing) d
@@ -211,62 +222,104 @@ module _ (state : DepacketizerState) (sent : List RtpBody) (first : ℕ) (sender
       as_going k p (inl opened) = inl opened
       as_going k p (inr waits) = inr (inr waits)
 
-      own_at : (k : ℕ) (before : List Deed) → ds ≡ took_places sent first place k ++ before → k < count → Begun before → IsSentAt sent first (at k) → ends_before a f (at k) ≡ false → is_late (begun_for a (at k)).expected (at k).0 ≡ false → Going_on (k + 1) (at k)
-      own_at zero before ds_is lt begun sent_is follows timely = as_going (zero + 1) (at zero)
-          (begin_on state sent first sender place count unit goes ds a f n d most limit zero (missing_count (begun_for a (at zero)).expected (at zero).0) refl lt sent_is it.steady follows timely refl empty (short_of most limit within zero lt) of (subst Begun (sym ds_is) begun))
-      own_at (suc j) before ds_is lt begun sent_is follows timely = by (it.tale.going j before ds_is (omega (arith, lt)) begun)
+      own_at : (k : ℕ) (before : List Deed) → ds ≡ took_places sent first place k ++ before → k < count → Begun before → (sent_is : IsSentAt sent first (at k)) → IsInTime due sent_is.place → ends_before a f (at k) ≡ false → is_late (begun_for a (at k)).expected (at k).0 ≡ false → Going_on (k + 1) (at k)
+      own_at zero before ds_is lt begun sent_is in_time follows timely = as_going (zero + 1) (at zero)
+          (begin_on state sent first sender place count unit goes due ds a f n d most limit zero (missing_count (begun_for a (at zero)).expected (at zero).0) refl lt sent_is in_time it.steady follows timely refl empty (short_of most limit within zero lt) of (subst Begun (sym ds_is) begun))
+      own_at (suc j) before ds_is lt begun sent_is in_time follows timely = by (it.tale.going j before ds_is (omega (arith, lt)) begun)
         where
           by : Going (j + 1) given a f n d → Going_on (suc j + 1) (at (suc j))
           by (inl opened) =
               let same : j + 1 ≡ suc j = omega arith in
-              as_going (suc j + 1) (at (suc j)) (next_on state sent first sender place count unit goes ds a f n d most limit (suc j) (missing_count (begun_for a (at (suc j))).expected (at (suc j)).0) lt sent_is it.steady follows timely empty (short_of most limit within (suc j) lt)
+              as_going (suc j + 1) (at (suc j)) (next_on state sent first sender place count unit goes due ds a f n d most limit (suc j) (missing_count (begun_for a (at (suc j))).expected (at (suc j)).0) lt sent_is in_time it.steady follows timely empty (short_of most limit within (suc j) lt)
               (subst (λ (k : ℕ). OpenAt k a f n d) same opened))
           by (inr done) = inr (inl (given_before given a n d empty done))
 
-      next_at : place + count < length sent → OpenAt count a f n d → IsSentAt sent first (at count) → ends_before a f (at count) ≡ false → is_late (begun_for a (at count)).expected (at count).0 ≡ false →
+      next_at : place + count < length sent → OpenAt count a f n d → (sent_is : IsSentAt sent first (at count)) → IsInTime due sent_is.place → ends_before a f (at count) ≡ false → is_late (begun_for a (at count)).expected (at count).0 ≡ false →
           let p = at count in let b = begun_for a p in let g = framing_of b f n p in let q = believed g p in let missing = missing_count b.expected p.0 in
           Done given (marker_forgotten (with_unit_within limit (after_taken_rtp most b q))) (after_packet (numbers_still g.stands_still n) q missing) d
-      next_at lt opened sent_is follows timely = inr (next_ends state sent first sender place count unit goes ds a f n d most limit (missing_count (begun_for a (at count)).expected (at count).0) lt sent_is it.steady follows timely empty closed opened)
+      next_at lt opened sent_is in_time follows timely = inr (next_ends state sent first sender place count unit goes due ds a f n d most limit (missing_count (begun_for a (at count)).expected (at count).0) lt sent_is in_time it.steady follows timely empty closed opened)
 
-      abbrev Ways : Packet → Deed → Assembly → Framing → NumbersSoFar → Type 0
-      Ways p deed new_a new_f new_n = Both (deed ∷ ds) given new_a new_f new_n d
-
-      pub due_both : (p : Packet) → IsSentAt sent first p → ends_before a f p ≡ false → (answer : Result Received PacketError) → IsAnswerTo most (begun_for a p) (believed (framing_of (begun_for a p) f n p) p) answer → (answer ≡ Err OutOfMemory → ⊥) →
+      took_both : (p : Packet) (at : IsSentAt sent first p) → IsInTime due at.place → ends_before a f p ≡ false → is_late (begun_for a p).expected p.0 ≡ false →
           let b = begun_for a p in let g = framing_of b f n p in let q = believed g p in
-          Both (packet_deed p answer ∷ ds) given (marker_forgotten (assembly_after most limit b q answer)) (framing_answered f g q answer) (numbers_answered b n g q answer) d
-      due_both p sent_is follows answer answered room = due_ways state sent first sender a f n p most limit sent_is it.steady.kind (Ways p)
-          (λ timely. record {
-            steady = took_steady state sent first sender ds a f n d p most limit _ sent_is it.steady follows timely;
-            tale = step_tale (TookPacket p) ds given a _ f _ n _ d d (λ keeps done. inl (given_before given a n d empty done))
-                (λ k before is rest lt begun.
-                let same = same_packet p (at k) is in
-                subst (λ (x : Packet). IsSentAt sent first x → ends_before a f x ≡ false → is_late (begun_for a x).expected x.0 ≡ false → Going_on (k + 1) x) (sym same) (own_at k before rest lt begun) sent_is follows timely)
-                (λ is lt opened.
-                let same = same_packet p (at count) is in
-                subst (λ (x : Packet). IsSentAt sent first x → ends_before a f x ≡ false → is_late (begun_for a x).expected x.0 ≡ false →
-                let b = begun_for a x in let g = framing_of b f n x in let q = believed g x in let missing = missing_count b.expected x.0 in
-                Done given (marker_forgotten (with_unit_within limit (after_taken_rtp most b q))) (after_packet (numbers_still g.stands_still n) q missing) d) (sym same) (next_at lt opened) sent_is follows timely)
-                it.tale;
-          })
-          (record {
-            steady = late_steady state sent first sender ds a f n d p sent_is it.steady;
-            tale = quiet_tale (PassedPacket p) ds given a _ f _ n _ d d (λ x e. let bad = e in cc) empty it.tale;
-          })
-          (λ timely m. record {
-            steady = refused_steady state sent first sender ds a f n d p m sent_is timely it.steady;
-            tale = quiet_tale (PassedPacket p) ds given a _ f _ n _ d d (λ x e. let bad = e in cc) empty it.tale;
-          })
-          answer answered room
+          Both (Some (due_taken due at.place)) (TookPacket p ∷ ds) given (marker_forgotten (with_unit_within limit (after_taken_rtp most b q))) (framing_marked g q.1.marker) (after_packet (numbers_still g.stands_still n) q (missing_count b.expected p.0)) d
+      took_both p sent_is in_time follows timely = record {
+        steady = took_steady state sent first sender due ds a f n d p most limit _ sent_is in_time it.steady follows timely;
+        tale = step_tale (TookPacket p) ds given a _ f _ n _ d d (λ keeps done. inl (given_before given a n d empty done))
+            (λ k before is rest lt begun.
+            let same = same_packet p (at k) is in
+            subst (λ (x : Packet). (x_is : IsSentAt sent first x) → IsInTime due x_is.place → ends_before a f x ≡ false → is_late (begun_for a x).expected x.0 ≡ false → Going_on (k + 1) x) (sym same) (own_at k before rest lt begun) sent_is in_time follows timely)
+            (λ is lt opened.
+            let same = same_packet p (at count) is in
+            subst (λ (x : Packet). (x_is : IsSentAt sent first x) → IsInTime due x_is.place → ends_before a f x ≡ false → is_late (begun_for a x).expected x.0 ≡ false →
+            let b = begun_for a x in let g = framing_of b f n x in let q = believed g x in let missing = missing_count b.expected x.0 in
+            Done given (marker_forgotten (with_unit_within limit (after_taken_rtp most b q))) (after_packet (numbers_still g.stands_still n) q missing) d) (sym same) (next_at lt opened) sent_is in_time follows timely)
+            it.tale;
+      }
+
+      late_both : (p : Packet) (at : IsSentAt sent first p) → IsInTime due at.place → is_late (begun_for a p).expected p.0 ≡ true → Both (due_passed due at.place) (PassedPacket p ∷ ds) given (marker_forgotten (begun_for a p)) f n d
+      late_both p sent_is in_time late = record {
+        steady = late_steady state sent first sender due ds a f n d p sent_is in_time late it.steady;
+        tale = quiet_tale (PassedPacket p) ds given a _ f _ n _ d d (λ x e. let bad = e in cc) empty it.tale;
+      }
+
+      refused_both : (p : Packet) (at : IsSentAt sent first p) → IsInTime due at.place → is_late (begun_for a p).expected p.0 ≡ false → (m : ℕ) →
+          Both (due_passed due at.place) (PassedPacket p ∷ ds) given (marker_forgotten (record (behind_missing (begun_for a p) p.0) { expected = Some (next_sequence_number p.0) })) f (after_gap n m) d
+      refused_both p sent_is in_time timely m = record {
+        steady = refused_steady state sent first sender due ds a f n d p m sent_is in_time timely it.steady;
+        tale = quiet_tale (PassedPacket p) ds given a _ f _ n _ d d (λ x e. let bad = e in cc) empty it.tale;
+      }
+
+    -- a packet that was met, and what was done before
+    record Met (p : Packet) (ds : List Deed) : Type 0 where
+      due : Option ℕ
+      at : IsSentAt sent first p
+      of : AreOfSender sent first due ds
+
+    packet_met : (p : Packet) (answer : Result Received PacketError) (new : Option ℕ) (ds : List Deed) → AreOfSender sent first new (packet_deed p answer ∷ ds) → Met p ds
+    packet_met p (Err error) new ds of = passed p new ds of
+      where
+        passed : (p : Packet) (new : Option ℕ) (ds : List Deed) → AreOfSender sent first new (PassedPacket p ∷ ds) → Met p ds
+        passed p new ds (passed_packet {due = due} q at in_time of) = record { due = due; at = at; of = of }
+    packet_met p (Ok answer) new ds of = by (is_one_taken p answer) p new ds of
+      where
+        by : (c : Bool) (p : Packet) (new : Option ℕ) (ds : List Deed) → AreOfSender sent first new ((if c then TookPacket p else PassedPacket p) ∷ ds) → Met p ds
+        by true p new ds (took_packet {due = due} q at in_time of) = record { due = due; at = at; of = of }
+        by false p new ds (passed_packet {due = due} q at in_time of) = record { due = due; at = at; of = of }
+
+    -- a packet that is due, whatever is known of the sender before
+    module _ (ds : List Deed) (given : Units) (a : Assembly) (f : Framing) (n : NumbersSoFar) (d : DecoderState) (most limit : ℕ) (within : Within most limit) (empty : a.ended ≡ []) (each : (due : Option ℕ) → AreOfSender sent first due ds → Both due ds given a f n d) where
+      took_each : (p : Packet) (new : Option ℕ) → ends_before a f p ≡ false → is_late (begun_for a p).expected p.0 ≡ false → AreOfSender sent first new (TookPacket p ∷ ds) →
+          let b = begun_for a p in let g = framing_of b f n p in let q = believed g p in
+          Both new (TookPacket p ∷ ds) given (marker_forgotten (with_unit_within limit (after_taken_rtp most b q))) (framing_marked g q.1.marker) (after_packet (numbers_still g.stands_still n) q (missing_count b.expected p.0)) d
+      took_each p new follows timely (took_packet {due = due} q at in_time of) = took_both due ds given a f n d most limit within of empty (each due of) p at in_time follows timely
+
+      late_each : (p : Packet) (new : Option ℕ) → is_late (begun_for a p).expected p.0 ≡ true → AreOfSender sent first new (PassedPacket p ∷ ds) → Both new (PassedPacket p ∷ ds) given (marker_forgotten (begun_for a p)) f n d
+      late_each p new late (passed_packet {due = due} q at in_time of) = late_both due ds given a f n d most limit within of empty (each due of) p at in_time late
+
+      refused_each : (p : Packet) (new : Option ℕ) → is_late (begun_for a p).expected p.0 ≡ false → (m : ℕ) → AreOfSender sent first new (PassedPacket p ∷ ds) →
+          Both new (PassedPacket p ∷ ds) given (marker_forgotten (record (behind_missing (begun_for a p) p.0) { expected = Some (next_sequence_number p.0) })) f (after_gap n m) d
+      refused_each p new timely m (passed_packet {due = due} q at in_time of) = refused_both due ds given a f n d most limit within of empty (each due of) p at in_time timely m
+
+      pub due_both : (p : Packet) → ends_before a f p ≡ false → (answer : Result Received PacketError) → IsAnswerTo most (begun_for a p) (believed (framing_of (begun_for a p) f n p) p) answer → (answer ≡ Err OutOfMemory → ⊥) → (new : Option ℕ) → AreOfSender sent first new (packet_deed p answer ∷ ds) →
+          let b = begun_for a p in let g = framing_of b f n p in let q = believed g p in
+          Both new (packet_deed p answer ∷ ds) given (marker_forgotten (assembly_after most limit b q answer)) (framing_answered f g q answer) (numbers_answered b n g q answer) d
+      due_both p follows answer answered room new of =
+          let met = packet_met p answer new ds of in
+          due_ways state sent first sender a f n p most limit met.at (each met.due met.of).steady.kind (λ (deed : Deed) (new_a : Assembly) (new_f : Framing) (new_n : NumbersSoFar). AreOfSender sent first new (deed ∷ ds) → Both new (deed ∷ ds) given new_a new_f new_n d)
+          (λ timely. took_each p new follows timely)
+          (λ late. late_each p new late)
+          (λ timely m. refused_each p new timely m)
+          answer answered room of
 
     -- the numbers of what is open, but for what is missing
     abbrev pub Carried : AccessUnitNumbers → Option AccessUnitNumbers → Type 0
     Carried k u = (now : AccessUnitNumbers) × (u ≡ Some now) × (now.timestamp ≡ k.timestamp) × (now.continues ≡ k.continues) × (now.first ≡ k.first) × (now.follows ≡ k.follows)
 
     -- once the first that ended is gone
-    gone_both : (ds : List Deed) (given new_given : Units) (a : Assembly) (f : Framing) (n new : NumbersSoFar) (d later : DecoderState) (u : AccessUnitValue) (us : List AccessUnitValue) → a.ended ≡ u ∷ us → new.has_begun ≡ n.has_begun → new.skipped_gap ≡ n.skipped_gap → new.marked ≡ n.marked → SameStamp a.unit new.unit →
-        ((k : AccessUnitNumbers) → n.unit ≡ Some k → Carried k new.unit) → (Given given → Given new_given) → (Waits a n d → Done new_given (record a { ended = us }) new later) → Both ds given a f n d → Both ds new_given (record a { ended = us }) f new later
-    gone_both ds given new_given a f n new d later u us is begun gap marked sync carry lift waits it = record {
-      steady = gone_steady state sent first sender ds a f n new d later u us is begun gap marked sync it.steady;
+    gone_both : (due : Option ℕ) (ds : List Deed) (given new_given : Units) (a : Assembly) (f : Framing) (n new : NumbersSoFar) (d later : DecoderState) (u : AccessUnitValue) (us : List AccessUnitValue) → a.ended ≡ u ∷ us → new.has_begun ≡ n.has_begun → new.skipped_gap ≡ n.skipped_gap → new.marked ≡ n.marked → SameStamp a.unit new.unit →
+        ((k : AccessUnitNumbers) → n.unit ≡ Some k → Carried k new.unit) → (Given given → Given new_given) → (Waits a n d → Done new_given (record a { ended = us }) new later) → Both due ds given a f n d → Both due ds new_given (record a { ended = us }) f new later
+    gone_both due ds given new_given a f n new d later u us is begun gap marked sync carry lift waits it = record {
+      steady = gone_steady state sent first sender due ds a f n new d later u us is begun gap marked sync it.steady;
       tale = record {
         going = λ k before e lt begun. going (it.tale.going k before e lt begun);
         done = λ after before e begun ended stays. done (it.tale.done after before e begun ended stays);
@@ -302,8 +355,8 @@ module _ (state : DepacketizerState) (sent : List RtpBody) (first : ℕ) (sender
             })
 
     -- where that has no bytes, and what is missing of it is told with a later one
-    pub bare_both : (ds : List Deed) (given : Units) (a : Assembly) (f : Framing) (n : NumbersSoFar) (d later : DecoderState) (missing : ℕ) (u : AccessUnitValue) (us : List AccessUnitValue) → a.ended ≡ u ∷ us → bears_nothing u.bytes ≡ true → Both ds given a f n d → Both ds given (record a { ended = us }) f (numbers_carrying (without_first_ended n) missing) later
-    bare_both ds given a f n d later missing u us is bare it = by n.ended n.ended_by_marker n.unit it
+    pub bare_both : (due : Option ℕ) (ds : List Deed) (given : Units) (a : Assembly) (f : Framing) (n : NumbersSoFar) (d later : DecoderState) (missing : ℕ) (u : AccessUnitValue) (us : List AccessUnitValue) → a.ended ≡ u ∷ us → bears_nothing u.bytes ≡ true → Both due ds given a f n d → Both due ds given (record a { ended = us }) f (numbers_carrying (without_first_ended n) missing) later
+    bare_both due ds given a f n d later missing u us is bare it = by n.ended n.ended_by_marker n.unit it
       where
         no_bytes : (k : AccessUnitNumbers) → Good state sent first sender place count unit goes u k → ⊥
         no_bytes k good = let bad = sym some ∙ ap (λ (x : AccessUnitValue). bears_nothing x.bytes) (sym good.unit_is) ∙ bare in cc
@@ -340,17 +393,17 @@ module _ (state : DepacketizerState) (sent : List RtpBody) (first : ℕ) (sender
         at_first : (e b : Option AccessUnitNumbers) → WaitsIn state sent first sender place count unit goes d a.ended e b → WaitsIn state sent first sender place count unit goes d (u ∷ us) e b
         at_first e b waiting = subst (λ (l : List AccessUnitValue). WaitsIn state sent first sender place count unit goes d l e b) is waiting
 
-        by : (e b x : Option AccessUnitNumbers) → Both ds given a f (record n { ended = e; ended_by_marker = b; unit = x }) d → Both ds given (record a { ended = us }) f (numbers_carrying (without_first_ended (record n { ended = e; ended_by_marker = b; unit = x })) missing) later
-        by (Some k) (Some kb) x it = gone_both ds given given a f _ _ d later u us is refl refl refl it.steady.sync (λ y is_y. same_now y x is_y) (λ g. g) (λ waiting. inr (waits_later (Some k) (Some kb) _ us (λ y is_y some. more_now y kb _ is_y) (at_first (Some k) (Some kb) waiting))) it
-        by (Some k) None (Some x) it = gone_both ds given given a f _ _ d later u us is refl refl refl (same_more a.unit x _ it.steady.sync) (λ y is_y. more_now y x _ is_y) (λ g. g) (λ waiting. inr (waits_later (Some k) None _ us (λ y is_y some. absurd (let bad = is_y in cc)) (at_first (Some k) None waiting))) it
-        by (Some k) None None it = gone_both ds given given a f _ _ d later u us is refl refl refl it.steady.sync (λ y is_y. same_now y None is_y) (λ g. g) (λ waiting. inr (waits_later (Some k) None _ us (λ y is_y some. absurd (let bad = is_y in cc)) (at_first (Some k) None waiting))) it
-        by None b (Some x) it = gone_both ds given given a f _ _ d later u us is refl refl refl (same_more a.unit x _ it.steady.sync) (λ y is_y. more_now y x _ is_y) (λ g. g) (λ waiting. inr (waits_later None b _ us (λ y is_y some. absurd (some refl)) (at_first None b waiting))) it
-        by None b None it = gone_both ds given given a f _ _ d later u us is refl refl refl it.steady.sync (λ y is_y. same_now y None is_y) (λ g. g) (λ waiting. inr (waits_later None b _ us (λ y is_y some. absurd (some refl)) (at_first None b waiting))) it
+        by : (e b x : Option AccessUnitNumbers) → Both due ds given a f (record n { ended = e; ended_by_marker = b; unit = x }) d → Both due ds given (record a { ended = us }) f (numbers_carrying (without_first_ended (record n { ended = e; ended_by_marker = b; unit = x })) missing) later
+        by (Some k) (Some kb) x it = gone_both due ds given given a f _ _ d later u us is refl refl refl it.steady.sync (λ y is_y. same_now y x is_y) (λ g. g) (λ waiting. inr (waits_later (Some k) (Some kb) _ us (λ y is_y some. more_now y kb _ is_y) (at_first (Some k) (Some kb) waiting))) it
+        by (Some k) None (Some x) it = gone_both due ds given given a f _ _ d later u us is refl refl refl (same_more a.unit x _ it.steady.sync) (λ y is_y. more_now y x _ is_y) (λ g. g) (λ waiting. inr (waits_later (Some k) None _ us (λ y is_y some. absurd (let bad = is_y in cc)) (at_first (Some k) None waiting))) it
+        by (Some k) None None it = gone_both due ds given given a f _ _ d later u us is refl refl refl it.steady.sync (λ y is_y. same_now y None is_y) (λ g. g) (λ waiting. inr (waits_later (Some k) None _ us (λ y is_y some. absurd (let bad = is_y in cc)) (at_first (Some k) None waiting))) it
+        by None b (Some x) it = gone_both due ds given given a f _ _ d later u us is refl refl refl (same_more a.unit x _ it.steady.sync) (λ y is_y. more_now y x _ is_y) (λ g. g) (λ waiting. inr (waits_later None b _ us (λ y is_y some. absurd (some refl)) (at_first None b waiting))) it
+        by None b None it = gone_both due ds given given a f _ _ d later u us is refl refl refl it.steady.sync (λ y is_y. same_now y None is_y) (λ g. g) (λ waiting. inr (waits_later None b _ us (λ y is_y some. absurd (some refl)) (at_first None b waiting))) it
 
     -- the first that ended is given out
-    pub given_both : (ds : List Deed) (given : Units) (a : Assembly) (f : Framing) (n : NumbersSoFar) (d later : DecoderState) (has_sets : Bool) (u : AccessUnitValue) (us : List AccessUnitValue) → a.ended ≡ u ∷ us → Both ds given a f n d →
-        Both ds (received_unit d has_sets a.state.is_avc u (first_ended n) ∷ given) (record a { ended = us }) f (without_first_ended n) later
-    given_both ds given a f n d later has_sets u us is it = by n.ended n.ended_by_marker it
+    pub given_both : (due : Option ℕ) (ds : List Deed) (given : Units) (a : Assembly) (f : Framing) (n : NumbersSoFar) (d later : DecoderState) (has_sets : Bool) (u : AccessUnitValue) (us : List AccessUnitValue) → a.ended ≡ u ∷ us → Both due ds given a f n d →
+        Both due ds (received_unit d has_sets a.state.is_avc u (first_ended n) ∷ given) (record a { ended = us }) f (without_first_ended n) later
+    given_both due ds given a f n d later has_sets u us is it = by n.ended n.ended_by_marker it
       where
         avc_is : a.state.is_avc ≡ state.is_avc
         avc_is = ap (λ (r : DepacketizerState). r.is_avc) it.steady.kind
@@ -390,7 +443,7 @@ module _ (state : DepacketizerState) (sent : List RtpBody) (first : ℕ) (sender
         at_first : (e b : Option AccessUnitNumbers) → WaitsIn state sent first sender place count unit goes d a.ended e b → WaitsIn state sent first sender place count unit goes d (u ∷ us) e b
         at_first e b waiting = subst (λ (l : List AccessUnitValue). WaitsIn state sent first sender place count unit goes d l e b) is waiting
 
-        by : (e b : Option AccessUnitNumbers) → Both ds given a f (record n { ended = e; ended_by_marker = b }) d →
-            Both ds (received_unit d has_sets a.state.is_avc u (first_of_ended e b) ∷ given) (record a { ended = us }) f (without_ended_of (record n { ended = e; ended_by_marker = b }) e) later
-        by (Some k) b it = gone_both ds given _ a f _ _ d later u us is refl refl refl it.steady.sync (λ y is_y. same_now y n.unit is_y) (lift _) (λ waiting. given_or_waits (Some k) b (at_first (Some k) b waiting)) it
-        by None b it = gone_both ds given _ a f _ _ d later u us is refl refl refl it.steady.sync (λ y is_y. same_now y n.unit is_y) (lift _) (λ waiting. given_or_waits None b (at_first None b waiting)) it
+        by : (e b : Option AccessUnitNumbers) → Both due ds given a f (record n { ended = e; ended_by_marker = b }) d →
+            Both due ds (received_unit d has_sets a.state.is_avc u (first_of_ended e b) ∷ given) (record a { ended = us }) f (without_ended_of (record n { ended = e; ended_by_marker = b }) e) later
+        by (Some k) b it = gone_both due ds given _ a f _ _ d later u us is refl refl refl it.steady.sync (λ y is_y. same_now y n.unit is_y) (lift _) (λ waiting. given_or_waits (Some k) b (at_first (Some k) b waiting)) it
+        by None b it = gone_both due ds given _ a f _ _ d later u us is refl refl refl it.steady.sync (λ y is_y. same_now y n.unit is_y) (lift _) (λ waiting. given_or_waits None b (at_first None b waiting)) it

@@ -754,7 +754,7 @@ module _ (state : DepacketizerState) (kept : Packets) (told : List ℕ) where
 
   -- all that is known of access units: of those that are open and that ended, and of the packets before
   pub record PartsIf (has_slice : Bool) (handed : Packets) (a : Assembly) (n : NumbersSoFar) (is_anew : Bool) : Type 0 where
-    kind : a.state ≡ state_with_run state a.state.run
+    pub kind : a.state ≡ state_with_run state a.state.run
     sync : SameStamp a.unit n.unit
     core : is_anew ≡ false → Core handed a n has_slice true
     ended : EndedAre handed a.ended n.ended n.ended_by_marker

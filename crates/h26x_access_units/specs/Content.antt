@@ -176,6 +176,16 @@ with_frames extra unit c = c
 abbrev pub content_with_unit : CodecExtra → Content → List ℕ → Content
 content_with_unit extra c unit = with_frames extra unit (with_kind c (content_kind extra unit))
 
+-- what is told by a slice that is the first unit, behind whose header these bytes stand
+abbrev pub slice_content : Slice → Option (List ℕ) → Content
+slice_content it head =
+    record no_content { first = Some (kinds.Slice it); slice = Some it; head = head }
+
+-- the bytes behind the header of a slice of a codec, where it has frame numbers
+abbrev pub told_head : CodecExtra → List ℕ → Option (List ℕ)
+told_head (extras.H264 told) unit = Some (slice_head unit)
+told_head extra unit = None
+
 -- a length of four bytes, the highest first
 abbrev pub length_at : List ℕ → ℕ
 length_at text = get_or text 0 0 * 16777216 + get_or text 1 0 * 65536 + get_or text 2 0 * 256

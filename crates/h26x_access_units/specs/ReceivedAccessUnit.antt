@@ -8,6 +8,7 @@ use Rattle.h26x_access_units.specs.declared.decoder.DecoderState.{DecoderState}
 use Rattle.h26x_access_units.specs.Content.{content_of}
 use Rattle.h26x_access_units.specs.Decoder.{is_disposable, layer_after, tells_whole, shows, decoder_after}
 use Rattle.h26x_access_units.specs.declared.unit.ReceivedAccessUnit.{ReceivedAccessUnit}
+use Rattle.h26x_access_units.specs.declared.unit.Told.{Told}
 
 -- an access unit as it is given out, its bytes as a list
 pub record ReceivedAccessUnitValue : Type 0 where
@@ -52,6 +53,15 @@ abbrev pub decoder_with : DecoderState → Bool → Bool → AccessUnitValue →
 decoder_with d has_sets is_avc unit numbers = decoder_after d has_sets unit.is_whole unit.extra
     numbers (unit_content is_avc unit)
 
+-- what is told of an access unit by what is known of a decoder
+abbrev pub told_of : DecoderState → Bool → Bool → AccessUnitValue → AccessUnitNumbers → Told
+told_of d has_sets is_avc unit numbers = record {
+  is_whole = whole_with d is_avc unit numbers;
+  is_clean = shows (decoder_with d has_sets is_avc unit numbers) unit.is_whole;
+  is_disposable = is_disposable (layer_after d numbers (unit_content is_avc unit))
+      (unit_content is_avc unit).slice;
+}
+
 -- an access unit with its numbers, as it is given out by what is known of a decoder
 abbrev pub received_unit : DecoderState → Bool → Bool → AccessUnitValue → AccessUnitNumbers →
     ReceivedAccessUnitValue
@@ -59,10 +69,9 @@ received_unit d has_sets is_avc unit numbers = record {
   timestamp = unit.timestamp;
   bytes = unit.bytes;
   extra = unit.extra;
-  is_whole = whole_with d is_avc unit numbers;
-  is_clean = shows (decoder_with d has_sets is_avc unit numbers) unit.is_whole;
-  is_disposable = is_disposable (layer_after d numbers (unit_content is_avc unit))
-      (unit_content is_avc unit).slice;
+  is_whole = (told_of d has_sets is_avc unit numbers).is_whole;
+  is_clean = (told_of d has_sets is_avc unit numbers).is_clean;
+  is_disposable = (told_of d has_sets is_avc unit numbers).is_disposable;
   continues = numbers.continues;
   first = numbers.first;
   last = numbers.last;

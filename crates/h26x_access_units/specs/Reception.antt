@@ -481,6 +481,11 @@ abbrev pub has_bare : List AccessUnitValue → Bool
 has_bare [] = false
 has_bare (unit ∷ units) = bears_nothing unit.bytes
 
+-- whether the first of access units has bytes, so that it is given out next
+abbrev pub has_unit : List AccessUnitValue → Bool
+has_unit [] = false
+has_unit (unit ∷ units) = not (bears_nothing unit.bytes)
+
 -- so of a receiver
 abbrev pub without_bare : Reception → Reception
 without_bare s = without_bare_of s s.assembler.ended

@@ -1,6 +1,6 @@
 -- Access units all of whose packets a receiver takes (RFC 3550, 5.1; RFC 6184, 5.1; RFC 7798, 4.1; RFC
 -- 9328, 4.1; ours).
-use Rattle.std.specs.Prelude.{◌≡◌, ℕ, zero, suc, ◌+◌, ◌≤◌, ◌<◌, Bool, true, false, ◌&&◌, if◌then◌else◌, List, [], ◌∷◌, ◌++◌, length, Option, Some, None, Result, Ok, Err, MatchBool, ◌⊎◌}
+use Rattle.std.specs.Prelude.{◌≡◌, ℕ, zero, suc, ◌+◌, ◌≤◌, ◌<◌, ◌^◌, nat_lt, Bool, true, false, ◌&&◌, if◌then◌else◌, List, [], ◌∷◌, ◌++◌, length, Option, Some, None, Result, Ok, Err, MatchBool, ◌⊎◌}
 use Rattle.std.specs.List.{Contains}
 use Rattle.std.proofs.Common.{inl, inr}
 use Rattle.h26x_core.specs.declared.error.PacketError.{PacketError}
@@ -88,9 +88,10 @@ is_stream_new (EndedStream ∷ before) = true
 is_stream_new (DroppedAll ∷ before) = true
 is_stream_new (deed ∷ before) = false
 
--- whether each number was told of a stream that begins
+-- whether each number since all was dropped was told of a stream that begins
 abbrev pub are_told_first : List Deed → Bool
 are_told_first [] = true
+are_told_first (DroppedAll ∷ before) = true
 are_told_first (ToldFirst number ∷ before) = is_stream_new before && are_told_first before
 are_told_first (deed ∷ before) = are_told_first before
 
@@ -110,15 +111,44 @@ open_stamp (PassedPacket p ∷ before) = open_stamp before
 open_stamp (ToldFirst number ∷ before) = open_stamp before
 open_stamp (deed ∷ before) = None
 
--- Each packet is one that was sent, at its place; and a number is told only of a stream that begins.
-abbrev pub AreOfSender : List RtpBody → ℕ → List Deed → Type 0
-AreOfSender sent first [] = Unit {0}
-AreOfSender sent first (TookPacket p ∷ before) = IsSentAt sent first p × AreOfSender sent first before
-AreOfSender sent first (PassedPacket p ∷ before) = IsSentAt sent first p × AreOfSender sent first before
-AreOfSender sent first (EndedBefore p ∷ before) = IsSentAt sent first p × AreOfSender sent first before
-AreOfSender sent first (ToldFirst number ∷ before) = (is_stream_new before ≡ true)
-    × AreOfSender sent first before
-AreOfSender sent first (deed ∷ before) = AreOfSender sent first before
+-- A packet of a place comes in time where a place is due: half of the numbers before or behind that at
+-- most (RFC 3550, 5.1).
+abbrev pub IsInTime : Option ℕ → ℕ → Type 0
+IsInTime None place = Unit {0}
+IsInTime (Some due) place = (place < due + 2 ^ 15) × (due ≤ place + 2 ^ 15)
+
+-- the place that is due behind a packet that was taken: behind the furthest
+abbrev pub due_taken : Option ℕ → ℕ → ℕ
+due_taken None place = place + 1
+due_taken (Some due) place = if nat_lt place due then due else place + 1
+
+-- so behind one that was passed over, where one was taken before
+abbrev pub due_passed : Option ℕ → ℕ → Option ℕ
+due_passed None place = None
+due_passed (Some due) place = Some (due_taken (Some due) place)
+
+-- What was done since all was dropped is of a sender: each packet is one that was sent, and came in
+-- time; and a number is told only of a stream that begins. The place is the one behind the furthest
+-- packet since one was taken, in this stream.
+pub data AreOfSender (sent : List RtpBody) (first : ℕ) : Option ℕ → List Deed → Type 0 where
+  none_done : AreOfSender sent first None []
+  took_packet : {due : Option ℕ} {before : List Deed} (p : ℕ × RtpBody)
+      (at : IsSentAt sent first p) → IsInTime due at.place →
+      AreOfSender sent first due before →
+      AreOfSender sent first (Some (due_taken due at.place)) (TookPacket p ∷ before)
+  passed_packet : {due : Option ℕ} {before : List Deed} (p : ℕ × RtpBody)
+      (at : IsSentAt sent first p) → IsInTime due at.place →
+      AreOfSender sent first due before →
+      AreOfSender sent first (due_passed due at.place) (PassedPacket p ∷ before)
+  ended_before_packet : {due : Option ℕ} {before : List Deed} (p : ℕ × RtpBody)
+      (at : IsSentAt sent first p) → IsInTime due at.place →
+      AreOfSender sent first due before →
+      AreOfSender sent first None (EndedBefore p ∷ before)
+  ended_its_stream : {due : Option ℕ} {before : List Deed} → AreOfSender sent first due before →
+      AreOfSender sent first None (EndedStream ∷ before)
+  told_its_first : {before : List Deed} (number : ℕ) → is_stream_new before ≡ true →
+      AreOfSender sent first None before → AreOfSender sent first None (ToldFirst number ∷ before)
+  dropped_before : (before : List Deed) → AreOfSender sent first None (DroppedAll ∷ before)
 
 -- a packet was taken, that of this place
 abbrev pub took_place : List RtpBody → ℕ → ℕ → Deed
@@ -195,18 +225,23 @@ pub record WereAllTaken (r : DepacketizerState) (sent : List RtpBody) (first pla
   pub ended : IsEndedSo r sent first place count later
   pub stays : Contains later DroppedAll → ⊥
 
--- The first packets of a sender were taken, so many, one right behind the other, and an access unit is
--- among them that has ended: packets behind it too were taken, or its last one bears the marker, and
--- one of them something of a slice. Where it is the first it is known to be by what was done before.
+-- So many packets of a sender were taken from a place on, one right behind the other, all was not
+-- dropped since, and an access unit is among them that has ended: packets behind it too were taken, or
+-- it ended by what was done since, or by itself. Where it is the first of them it is known to be by
+-- what was done before.
 pub record WereTakenWithoutLoss (r : DepacketizerState) (sent : List RtpBody)
     (first place count : ℕ) (deeds : List Deed) : Type 0 where
+  pub start : ℕ
   pub taken : ℕ
+  pub later : List Deed
   pub before : List Deed
-  pub deeds_are : deeds ≡ took_places sent first 0 taken ++ before
-  pub few : taken ≤ length sent
-  pub within : place + count ≤ taken
-  pub begun : place ≡ 0 → IsBegunSo r sent first place (sent_text r sent place count) before
-  pub ended : (place + count < taken) ⊎ IsEndedSo r sent first place count []
+  pub deeds_are : deeds ≡ later ++ (took_places sent first start taken ++ before)
+  pub few : start + taken ≤ length sent
+  pub behind : start ≤ place
+  pub within : place + count ≤ start + taken
+  pub begun : place ≡ start → IsBegunSo r sent first place (sent_text r sent place count) before
+  pub ended : (place + count < start + taken) ⊎ IsEndedSo r sent first place count later
+  pub stays : Contains later DroppedAll → ⊥
 
 -- A depacketizer can write an access unit: what it writes has a byte, no packet gives up the run that
 -- is open or brings no byte, and none is open at the end; behind each packet run and text are within

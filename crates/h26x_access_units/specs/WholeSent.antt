@@ -19,13 +19,19 @@ use Rattle.h26x_access_units.specs.Content.{content_of}
 use Rattle.h26x_access_units.specs.Decoder.{is_front}
 use Rattle.h26x_access_units.specs.ReceivedAccessUnit.{ReceivedAccessUnitValue}
 use Rattle.h26x_access_units.specs.Reception.{Reception}
-use Rattle.h26x_access_units.specs.Account.{ReceiverCall, BeginCall, Account, IsEachAccounted, AreHandedInOrder, kept_packets}
+use Rattle.h26x_access_units.specs.Account.{ReceiverCall, BeginCall, RestartCall, Account, IsEachAccounted, AreHandedInOrder, kept_packets}
 
 -- the numbers that were told to be those of a first packet
 abbrev pub told_numbers : List ReceiverCall → List ℕ
 told_numbers [] = []
 told_numbers (BeginCall number ∷ before) = number ∷ told_numbers before
 told_numbers (call ∷ before) = told_numbers before
+
+-- the calls since the last `restart`
+abbrev pub since_restart : List ReceiverCall → List ReceiverCall
+since_restart [] = []
+since_restart (RestartCall ∷ before) = []
+since_restart (call ∷ before) = call ∷ since_restart before
 
 -- whether a packet that reads so is refused, and bears nothing that is to be written
 abbrev pub reads_no_unit : CodecExtra → List ℕ → Reading → Bool
@@ -212,12 +218,11 @@ IsFrontNowhere r sent = (place count : ℕ) (decoder : DecoderState) → place +
     (content_of r.is_avc (after_packets (nothing_written r) (sent_payloads sent place count)).extra
     (after_packets (nothing_written r) (sent_payloads sent place count)).out).first ≡ false
 
--- What a sender sends whose access units are told apart: at most half as many packets as there are
--- numbers, each of which bears something. The packets of an access unit have its timestamp, and
--- neighbours another one; only its last bears the marker. None of them begins another one behind a
--- slice of it, and what is taken for the front of an access unit stands only there.
+-- What a sender sends whose access units are told apart, however much it is: each packet bears
+-- something. The packets of an access unit have its timestamp, and neighbours another one; only its
+-- last bears the marker. None of them begins another one behind a slice of it, and what is taken for
+-- the front of an access unit stands only there.
 pub record IsSender (r : DepacketizerState) (sent : List RtpBody) : Type 0 where
-  pub few : length sent ≤ 2 ^ 15
   pub texts : (place : ℕ) → place < length sent →
       has_no_text r.format (sent_at sent place).payload ≡ false
   pub marked : (place : ℕ) → (sent_at sent place).marker ≡ true → place + 1 < length sent →
@@ -228,10 +233,12 @@ pub record IsSender (r : DepacketizerState) (sent : List RtpBody) : Type 0 where
       begins_unit r.format (sent_at sent place).payload ≡ false
   pub fronts : IsFrontNowhere r sent
 
--- all that came to a receiver is of that sender, by the numbers from a first one on
+-- all that came to a receiver is of that sender, by the numbers from a first one on, of which are used
+-- half at most
 pub record CameFromSender (told : List ℕ) (kept : List (ℕ × RtpBody)) (r : DepacketizerState)
     (sent : List RtpBody) (first : ℕ) : Type 0 where
   pub sender : IsSender r sent
+  pub few : length sent ≤ 2 ^ 15
   pub packets : (p : ℕ × RtpBody) → Contains kept p → IsSentAt sent first p
   pub fronts : (number : ℕ) → Contains told number → IsFrontNumber sent first number
 

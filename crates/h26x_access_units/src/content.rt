@@ -1,9 +1,9 @@
 //! What the NAL units of an access unit tell of it, from the first up to its first slice.
 
-ghost use Rattle.std.specs.Prelude.{◌≡◌, get_or};
+ghost use Rattle.std.specs.Prelude.{◌≡◌, false, get_or, IfSome};
 ghost use Rattle.std.specs.Option.{option_map};
 ghost use Rattle.h26x_cut.specs.Cutting.{behind_first_code};
-ghost use Rattle.h26x_access_units.specs.Content.{joined_sets, h264_kind, h265_kind, h266_kind, content_kind, with_kind, slice_head, telling_frames, with_frames, content_with_unit, first_unit, content_of};
+ghost use Rattle.h26x_access_units.specs.Content.{joined_sets, h264_kind, h265_kind, h266_kind, content_kind, with_kind, slice_head, telling_frames, with_frames, content_with_unit, slice_content, told_head, first_unit, content_of};
 
 use crate::frame_number::{Numbering, sps_numbering};
 use h26x_core::CodecExtra;
@@ -108,13 +108,13 @@ pub(crate) fn byte_at(unit: &[u8], place: usize) -> u8
 
 /// The eight bytes behind the header of an H.264 slice, 0 behind the end.
 #[inline]
-fn slice_head(unit: &[u8]) -> [u8; 8]
+pub(crate) fn slice_head(unit: &[u8]) -> [u8; 8]
     ensures { result ≡ slice_head unit.now }
 {
     if unit.len() > 8 {
-        return [
-            unit[1], unit[2], unit[3], unit[4], unit[5], unit[6], unit[7], unit[8],
-        ];
+        let mut head = [0; 8];
+        head.copy_from_slice(&unit[1..9]);
+        return head;
     }
     [
         byte_at(unit, 1),
@@ -337,4 +337,34 @@ pub(crate) fn content_of(is_avc: bool, extra: CodecExtra, text: &[u8]) -> Conten
         rest = behind;
     }
     content
+}
+
+/// An H.264 unit, of which the bytes behind the header tell a frame number.
+#[inline]
+fn framed(extra: CodecExtra, unit: &[u8]) -> Option<&[u8]>
+    ensures { option_map (λ it. slice_head it.now) result ≡ told_head extra unit.now }
+{
+    match extra {
+        CodecExtra::H264(_) => Some(unit),
+        _ => None,
+    }
+}
+
+/// The first unit of a text where that is a slice of no keyframe, and its bytes where they tell a frame
+/// number; none where it isn't.
+#[inline]
+pub(crate) fn plain_slice(
+    is_avc: bool,
+    extra: CodecExtra,
+    text: &[u8],
+) -> Option<(Slice, Option<&[u8]>)>
+    ensures told { IfSome result (λ it. content_of is_avc extra text.now
+        ≡ slice_content it.0 (option_map (λ unit. slice_head unit.now) it.1)) }
+    ensures plain { IfSome result (λ it. it.0.is_key ≡ false) }
+{
+    let (unit, _) = first_unit(is_avc, text)?;
+    match content_kind(extra, unit) {
+        UnitKind::Slice(slice) if !slice.is_key => Some((slice, framed(extra, unit))),
+        _ => None,
+    }
 }

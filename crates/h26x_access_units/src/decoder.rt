@@ -1,10 +1,12 @@
 //! What is known of a decoder that is given the access units, one after the other.
 
-ghost use Rattle.std.specs.Prelude.{◌≡◌};
+ghost use Rattle.std.specs.Prelude.{◌≡◌, true, false, Some};
+ghost use Rattle.std.specs.Option.{option_map};
+ghost use Rattle.h26x_access_units.specs.Content.{slice_head};
 ghost use Rattle.h26x_access_units.specs.FrameNumber.{tells_none_lost, joined_numbering};
 ghost use Rattle.h26x_access_units.specs.Decoder.{fresh_decoder, are_enough, is_front, is_first_key, is_disposable, sets_before, sets_after, layer_after, head_after_slice, head_after, long_key_after, is_first_other, is_behind_no_loss, can_begin, can_go_on, tells_whole, shows, decoder_after};
 
-use crate::content::{Content, ParameterSets, UnitKind};
+use crate::content::{Content, ParameterSets, Slice, UnitKind, slice_head};
 use crate::frame_number::{Numbering, tells_none_lost};
 use crate::numbers::AccessUnitNumbers;
 use h26x_core::CodecExtra;
@@ -301,5 +303,37 @@ impl DecoderState {
             has_long_key: self.long_key_after(numbers, content),
             has_begun: true,
         }
+    }
+
+    /// Once an access unit is given out that is unbroken, follows the one before, and begins with a
+    /// slice of no keyframe, whose bytes tell a frame number or don't. The answer is whether no picture
+    /// refers to its own.
+    #[inline]
+    pub(crate) fn go_on(
+        &mut self,
+        numbers: AccessUnitNumbers,
+        slice: Slice,
+        framed: Option<&[u8]>,
+    ) -> bool
+        requires { slice.is_key ≡ false }
+        ensures disposable { result ≡ is_disposable self.old.highest_layer (Some slice) }
+        ensures after { self.new ≡ record self.old {
+          last_head = head_after_slice true numbers.is_counted
+              (option_map (λ unit. slice_head unit.now) framed.entry) self.old.last_head (Some slice);
+          has_begun = true;
+        } }
+    {
+        self.has_begun = true;
+        if slice.is_unreferenced {
+            if !numbers.is_counted {
+                self.last_head = None;
+            }
+            return slice.layer == 0 || slice.layer == self.highest_layer;
+        }
+        self.last_head = match framed {
+            Some(unit) if slice.is_first => Some(slice_head(unit)),
+            _ => None,
+        };
+        false
     }
 }

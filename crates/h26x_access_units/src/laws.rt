@@ -15,7 +15,7 @@ ghost use Rattle.h26x_access_units.specs.ReceivedAccessUnit.{ReceivedAccessUnitV
 ghost use Rattle.h26x_access_units.specs.Reception.{Reception, fresh_reception, begun_reception, restarted, with_settings, ended_reception, reception_answer, after_reception, IsPushed, IsNext};
 ghost use Rattle.h26x_access_units.specs.Decodable.{GivenUnit, IsCleanWhereDecodable, WereGiven, IsGivenBehind};
 ghost use Rattle.h26x_access_units.specs.Account.{ReceiverCall, NextCall, AreReceiverCalls, IsAccounted, kept_packets};
-ghost use Rattle.h26x_access_units.specs.WholeSent.{told_numbers, IsToldWhole, IsSender, CameFromSender, WasSent};
+ghost use Rattle.h26x_access_units.specs.WholeSent.{told_numbers, since_restart, IsToldWhole, IsSender, CameFromSender, WasSent};
 ghost use Rattle.h26x_access_units.specs.UnitsSent.{AreNeighboursApart, IsOneSent, IsWrittenAsSent, call_units, told_unit};
 ghost use Rattle.h26x_access_units.specs.ToldWhole.{all_deeds, are_told_first, AreOfSender, settings_set, IsUnitSent, WereAllTaken, WereTakenWithoutLoss, CanBeWritten, WasToldWhole};
 ghost use Rattle.h26x_access_units.specs.Passed.{is_told_taken, AreNumbers, AreSoonBehind};
@@ -135,14 +135,17 @@ pub fn what_is_told_whole_has_all_its_packets()
 
 /// Whole means sent. Of a sender whose access units are told apart, an access unit that is told whole
 /// is one of those that were sent: all packets with its timestamp, one behind the other, and its bytes
-/// are what a depacketizer writes of all of them.
+/// are what a depacketizer writes of all of them. All that came since the last `restart` is of this
+/// sender, of at most 2^15 packets, so that a number is of one of them. Its access units are told
+/// apart by any state of a decoder: no packet behind another of its access unit begins with a VPS, or
+/// of H.264 and H.266 an SPS.
 pub fn what_is_told_whole_was_sent()
     ensures { (config : AccessUnitConfig) (state : DepacketizerState) (now : ℕ)
         (unit : ReceivedAccessUnitValue) (calls : List ReceiverCall) (s : Reception)
         (sent : List RtpBody) (first : ℕ) → IsPayloadFormat state.format →
         AreReceiverCalls (fresh_reception config state) (NextCall now (Some unit) ∷ calls) s →
-        CameFromSender (told_numbers calls) (kept_packets calls) state sent first →
-        unit.is_whole ≡ true → WasSent state sent first unit }
+        CameFromSender (told_numbers (since_restart calls)) (kept_packets (since_restart calls))
+        state sent first → unit.is_whole ≡ true → WasSent state sent first unit }
 {
     model_laws::depacketizers_go_on();
 }
@@ -150,13 +153,16 @@ pub fn what_is_told_whole_was_sent()
 /// Sent means told whole. Of a sender whose access units are told apart, an access unit all of whose
 /// packets were taken, one right behind the other from its beginning to its end, is given out and told
 /// whole, and its bytes are what a depacketizer writes of all of them: once `next` was called until
-/// none that ended is left.
+/// none that ended is left. All since the last `restart` is of this sender (for what came before, the
+/// law is of the calls before), of any length: fewer than 2^15 packets are lost at a time, and each
+/// comes less than 2^15 places behind the furthest. Whether a decoder can show it isn't said here. What
+/// `finish` ends, or a stream that begins anew, isn't told whole, nor what nothing tells to have begun.
 pub fn what_was_sent_and_taken_is_told_whole()
     ensures { (config : AccessUnitConfig) (state : DepacketizerState) (calls : List ReceiverCall)
-        (s : Reception) (sent : List RtpBody) (first place count : ℕ)
+        (s : Reception) (sent : List RtpBody) (first place count : ℕ) (due : Option ℕ)
         (are : AreReceiverCalls (fresh_reception config state) calls s) →
         IsPayloadFormat state.format → IsSender state sent →
-        AreOfSender sent first (all_deeds are) → IsUnitSent sent place count →
+        AreOfSender sent first due (all_deeds are) → IsUnitSent sent place count →
         WereAllTaken state sent first place count (all_deeds are) →
         CanBeWritten state sent place count (config ∷ settings_set calls) →
         s.assembler.ended ≡ [] → WasToldWhole state sent first place count calls }
@@ -164,14 +170,15 @@ pub fn what_was_sent_and_taken_is_told_whole()
     model_laws::depacketizers_go_on();
 }
 
-/// So it is of a stream without a loss: where its packets were taken one after the other, from the
-/// first one on, each access unit among them that has ended is given out and told whole.
+/// So it is of a stream without a loss: where its packets were taken one after the other, from any on,
+/// each access unit among them that has ended is given out and told whole, the first one where its
+/// beginning is known.
 pub fn access_units_without_loss_are_told_whole()
     ensures { (config : AccessUnitConfig) (state : DepacketizerState) (calls : List ReceiverCall)
-        (s : Reception) (sent : List RtpBody) (first place count : ℕ)
+        (s : Reception) (sent : List RtpBody) (first place count : ℕ) (due : Option ℕ)
         (are : AreReceiverCalls (fresh_reception config state) calls s) →
         IsPayloadFormat state.format → IsSender state sent →
-        AreOfSender sent first (all_deeds are) → IsUnitSent sent place count →
+        AreOfSender sent first due (all_deeds are) → IsUnitSent sent place count →
         WereTakenWithoutLoss state sent first place count (all_deeds are) →
         CanBeWritten state sent place count (config ∷ settings_set calls) →
         s.assembler.ended ≡ [] → WasToldWhole state sent first place count calls }
@@ -184,14 +191,16 @@ pub fn none_is_left_once_none_is_given_out()
     ensures { (now : ℕ) (s new : Reception) → IsNext now s new None → new.assembler.ended ≡ [] }
 {}
 
-/// All that a receiver does is done with packets that were kept: where these are a sender's, and
-/// numbers are told only of a stream that begins, it is done with packets of that sender.
+/// All that a receiver does since the last `restart` is done with packets that were kept since: where
+/// these are a sender's, of at most 2^15 packets, and numbers are told only of a stream that begins, it
+/// is done with packets of that sender.
 pub fn what_is_done_is_of_the_sender()
     ensures { (config : AccessUnitConfig) (state : DepacketizerState) (calls : List ReceiverCall)
         (s : Reception) (sent : List RtpBody) (first : ℕ)
         (are : AreReceiverCalls (fresh_reception config state) calls s) →
-        CameFromSender (told_numbers calls) (kept_packets calls) state sent first →
-        are_told_first (all_deeds are) ≡ true → AreOfSender sent first (all_deeds are) }
+        CameFromSender (told_numbers (since_restart calls)) (kept_packets (since_restart calls))
+        state sent first → are_told_first (all_deeds are) ≡ true →
+        (due : Option ℕ) × AreOfSender sent first due (all_deeds are) }
 {}
 
 /// What was sent so is one of a sender's access units, where each has a packet, and neighbours have

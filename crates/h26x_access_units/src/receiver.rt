@@ -1,6 +1,6 @@
 //! A receiver that takes packets as they come and gives out access units.
 
-ghost use Rattle.std.specs.Prelude.{◌≡◌, ◌^◌, ◌<◌, ◌≤◌, Option, true, false, not, ◌&&◌, [], None, Some, Ok, Err, IfOk, OnOk, OnErr, IfErr, length};
+ghost use Rattle.std.specs.Prelude.{◌≡◌, ◌^◌, ◌<◌, ◌≤◌, Option, true, false, not, ◌&&◌, [], None, Some, Ok, Err, IfOk, OnOk, OnErr, IfErr, length, vec_len, slice_index_or, remove};
 ghost use Rattle.std.specs.Option.{option_map};
 ghost use Rattle.h26x_reorder.specs.Rtp.{rtp_body};
 ghost use Rattle.h26x_reorder.specs.ReorderBuffer.{numbered_packet, push_answer};
@@ -9,7 +9,7 @@ ghost use Rattle.h26x_access_units.specs.Pushed.{IsNotPushedReason, is_kept, not
 ghost use Rattle.h26x_access_units.specs.JitterBuffer.{may_tell_first};
 ghost use Rattle.h26x_assembler.specs.Assembler.{assembly_at};
 ghost use Rattle.h26x_access_units.specs.ReceivedAccessUnit.{received_unit_value};
-ghost use Rattle.h26x_access_units.specs.Reception.{fresh_reception, begun_reception, is_behind_missing, ends_before, reception_answer, has_no_unit, has_bare, first_passed, without_bare, ended_if_anew, ended_if_over, restarted, unit_given, without_given, is_taken_at_once, is_idle, IsDrained, after_reception, anew_of, way_of, IsPushAnswer, IsPutAside, refused_reception, IsTakenAsDue, IsDueTakenOrNone, FollowsWhereDue, IsEndedOrFollows, IsStepOrNone, IsStepInPart, NoneIsDueUnlessEnded, IsPushedIfOk, ended_reception, IsDrainedInPart, GivesNext, nack_numbers, AreExactNacks, next_deadline, settings, with_settings};
+ghost use Rattle.h26x_access_units.specs.Reception.{fresh_reception, begun_reception, is_behind_missing, ends_before, reception_answer, has_no_unit, has_bare, has_unit, first_passed, without_bare, ended_if_anew, ended_if_over, restarted, unit_given, without_given, is_taken_at_once, is_idle, IsDrained, after_reception, anew_of, way_of, IsPushAnswer, IsPutAside, refused_reception, IsTakenAsDue, IsDueTakenOrNone, FollowsWhereDue, IsEndedOrFollows, IsStepOrNone, IsStepInPart, NoneIsDueUnlessEnded, IsPushedIfOk, ended_reception, IsDrainedInPart, GivesNext, nack_numbers, AreExactNacks, next_deadline, settings, with_settings};
 ghost use Rattle.h26x_access_units.specs.Limits.{StaysWithinLimits};
 
 use crate::config::AccessUnitConfig;
@@ -67,6 +67,19 @@ fn anew_with(
     let _ = waiting.push(now, packet)?;
     waiting.set_held_limit(config.held_limit);
     Ok(waiting)
+}
+
+/// Removes the first of access units: where it is the only one nothing moves.
+#[inline]
+fn remove_first(units: &mut Vec<AccessUnit>) -> AccessUnit
+    requires { 0 < vec_len units.old }
+    ensures value { result ≡ slice_index_or units.old.items 0 result }
+    ensures items { units.new.items ≡ remove units.old.items 0 }
+{
+    if units.len() == 1 {
+        return units.pop().unwrap();
+    }
+    units.remove(0)
 }
 
 /// What a receiver is to contracts.
@@ -668,7 +681,7 @@ impl<D: RunDepacketizer> AccessUnitReceiver<D> {
         if self.ended.is_empty() {
             return None;
         }
-        let unit = self.ended.remove(0);
+        let unit = remove_first(&mut self.ended);
         let numbers = self.numbers.give();
         let is_avc = self.assembler.packets.depacketizer.is_avc();
         let has_sets = self.waiting.config().has_sets;
@@ -682,6 +695,7 @@ impl<D: RunDepacketizer> AccessUnitReceiver<D> {
     ///
     /// Without memory the error is `OutOfMemory`: what was taken before stays taken, and the packet for
     /// which memory lacks is due still.
+    #[inline]
     pub fn next(&mut self, now: u32) -> Result<Option<ReceivedAccessUnit>, PacketError>
         ensures next { let r = ⟦<Self as Receives>⟧.reception in
             GivesNext now (r self.old) result (r self.new) }
@@ -693,6 +707,9 @@ impl<D: RunDepacketizer> AccessUnitReceiver<D> {
         ensures bounded { let r = ⟦<Self as Receives>⟧.reception in
             StaysWithinLimits 0 (r self.old) (r self.new) }
     {
+        if self.has_unit() {
+            return Ok(self.give());
+        }
         if self.is_idle() {
             return Ok(None);
         }
@@ -705,6 +722,18 @@ impl<D: RunDepacketizer> AccessUnitReceiver<D> {
         ensures { let r = ⟦<Self as Receives>⟧.reception in result ≡ is_idle (r self.now) }
     {
         !self.has_ended() && !self.is_anew && self.waiting.waits_for_none()
+    }
+
+    /// Whether the first access unit that ended has bytes, so that it is the next.
+    #[inline]
+    fn has_unit(&self) -> bool
+        ensures { let r = ⟦<Self as Receives>⟧.reception in
+            result ≡ has_unit (r self.now).assembler.ended }
+    {
+        match self.ended.first() {
+            Some(unit) => !unit.bytes.is_empty(),
+            None => false,
+        }
     }
 
     /// What `next` does.

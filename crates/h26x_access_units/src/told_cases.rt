@@ -1,9 +1,11 @@
 //! Worked cases of access units all of whose packets are taken, each the contract of a function without
 //! a result.
 
-ghost use Rattle.std.specs.Prelude.{◌≡◌, ◌≤◌, ◌<◌, ◌+◌, ℕ, length, List, true, false, None, Some, [], ◌∷◌, Ok, Err, MatchBool};
+ghost use Rattle.std.specs.Prelude.{◌≡◌, ◌≤◌, ◌<◌, ◌+◌, ℕ, Option, length, List, true, false, None, Some, [], ◌∷◌, Ok, Err, MatchBool};
+ghost use Rattle.h26x_core.specs.ByteStream.{annex_b};
 ghost use Rattle.h26x_core.specs.declared.error.PacketError.{PacketError};
-ghost use Rattle.h26x_model.specs.Receive.DepacketizerState.{DepacketizerState, Depacketization};
+ghost use Rattle.h26x_core.specs.declared.extra.CodecExtra.TheVariants as extras;
+ghost use Rattle.h26x_model.specs.Receive.DepacketizerState.{DepacketizerState, Depacketization, depacketization};
 ghost use Rattle.h26x_model.specs.Receive.RunLimit.{run_len};
 ghost use Rattle.h26x_receiver.specs.declared.received.Received.TheVariants as received;
 ghost use Rattle.h26x_reorder.specs.Rtp.{RtpBody, rtp_body};
@@ -15,7 +17,7 @@ ghost use Rattle.h26x_access_units.specs.ReceivedAccessUnit.{ReceivedAccessUnitV
 ghost use Rattle.h26x_access_units.specs.Reception.{Reception, fresh_reception, IsDueTaken, IsDrained, IsEndedBefore, none, bare, more, behind};
 ghost use Rattle.h26x_access_units.specs.Account.{NextCall, FinishCall, RestartCall, SettingsCall, BeginCall, IsCall};
 ghost use Rattle.h26x_access_units.specs.WholeSent.{bears_slice, IsWrittenOf};
-ghost use Rattle.h26x_access_units.specs.ToldWhole.{TookPacket, PassedPacket, EndedBefore, EndedStream, ToldFirst, DroppedAll, packet_deed, drained_deeds, stream_deeds, push_deeds, call_deeds, is_stream_new, are_told_first, took_none, open_stamp, AreOfSender, took_places, settings_set, units_given, sent_text, IsUnitSent, IsBegunSo, IsEndedSo, WereAllTaken, CanBeWritten, WasToldWhole};
+ghost use Rattle.h26x_access_units.specs.ToldWhole.{TookPacket, PassedPacket, EndedBefore, EndedStream, ToldFirst, DroppedAll, packet_deed, drained_deeds, stream_deeds, push_deeds, call_deeds, is_stream_new, are_told_first, took_none, open_stamp, AreOfSender, took_places, settings_set, units_given, IsInTime, due_taken, due_passed, sent_text, IsUnitSent, IsBegunSo, IsEndedSo, WereAllTaken, WereTakenWithoutLoss, CanBeWritten, WasToldWhole};
 
 /// A packet is taken that has a payload and isn't late; others, and those refused, are passed over.
 pub fn packets_that_are_taken()
@@ -95,21 +97,108 @@ pub fn what_deeds_tell()
         ∷ EndedStream ∷ TookPacket p ∷ ToldFirst 5 ∷ []) ≡ true }
     ensures told_late { (p : ℕ × RtpBody) →
         are_told_first (EndedStream ∷ ToldFirst 7 ∷ TookPacket p ∷ []) ≡ false }
+    ensures told_before { (p : ℕ × RtpBody) →
+        are_told_first (DroppedAll ∷ ToldFirst 7 ∷ TookPacket p ∷ []) ≡ true }
+{}
+
+/// A packet comes in time that is at most 2^15 places before or behind the one that is due: that behind
+/// the furthest that was taken.
+pub fn packets_that_come_in_time()
+    ensures first { IsInTime None 7 }
+    ensures ahead { IsInTime (Some 40000) 72767 }
+    ensures too_far { IsInTime (Some 40000) 72768 → ⊥ }
+    ensures behind { IsInTime (Some 40000) 7232 }
+    ensures too_late { IsInTime (Some 40000) 7231 → ⊥ }
+    ensures taken { due_taken None 7 ≡ 8 }
+    ensures next { due_taken (Some 7) 7 ≡ 8 }
+    ensures further { due_taken (Some 7) 70000 ≡ 70001 }
+    ensures late { due_taken (Some 7) 6 ≡ 7 }
+    ensures none_taken { due_passed None 7 ≡ None }
+    ensures passed { due_passed (Some 7) 9 ≡ Some 10 }
 {}
 
 /// Packets of a sender at their places, where numbers go round; a stranger, and a number that is told
-/// behind a packet, are none of its.
+/// behind a packet, are none of its, but those before all was dropped are of any sender.
 pub fn deeds_with_packets_of_a_sender()
     ensures own { let b = rtp_body 5 true (1 ∷ []) in AreOfSender (rtp_body 4 true (1 ∷ []) ∷ b ∷ [])
-        65535 (TookPacket (0, b) ∷ ToldFirst 0 ∷ EndedStream ∷ PassedPacket (0, b)
+        65535 (Some 2) (TookPacket (0, b) ∷ ToldFirst 0 ∷ EndedStream ∷ PassedPacket (0, b)
         ∷ EndedBefore (0, b) ∷ []) }
-    ensures stranger { AreOfSender (rtp_body 4 true (1 ∷ []) ∷ []) 7
+    ensures stranger { (due : Option ℕ) → AreOfSender (rtp_body 4 true (1 ∷ []) ∷ []) 7 due
         (TookPacket (8, rtp_body 4 true (1 ∷ [])) ∷ []) → ⊥ }
-    ensures behind { let b = rtp_body 4 true (1 ∷ []) in AreOfSender (b ∷ []) 7
+    ensures behind { (due : Option ℕ) → let b = rtp_body 4 true (1 ∷ []) in AreOfSender (b ∷ []) 7 due
         (ToldFirst 8 ∷ TookPacket (7, b) ∷ []) → ⊥ }
+    ensures before { let b = rtp_body 4 true (1 ∷ []) in AreOfSender (b ∷ []) 7 (Some 1)
+        (TookPacket (7, b) ∷ DroppedAll ∷ TookPacket (8, rtp_body 4 true (2 ∷ [])) ∷ []) }
+    ensures late { let a = rtp_body 4 true (1 ∷ []) in let b = rtp_body 5 true (1 ∷ []) in
+        AreOfSender (a ∷ b ∷ []) 65535 (Some 2)
+        (PassedPacket (65535, a) ∷ TookPacket (0, b) ∷ []) }
+    ensures ended { (due : Option ℕ) → AreOfSender (rtp_body 4 true (1 ∷ []) ∷ []) 7 due
+        (EndedStream ∷ PassedPacket (8, rtp_body 4 true (1 ∷ [])) ∷ []) → ⊥ }
     ensures places { let b = rtp_body 5 false (2 ∷ []) in let c = rtp_body 5 true (3 ∷ []) in
         took_places (rtp_body 4 true (1 ∷ []) ∷ b ∷ c ∷ []) 65535 1 2
         ≡ TookPacket (1, c) ∷ TookPacket (0, b) ∷ [] }
+{}
+
+/// Where nothing tells the number of an access unit's first packet it begins by its first unit: a
+/// delimiter, whatever came before, where none is open of its timestamp; a parameter set of H.264 where
+/// none was taken before. Another set begins none, nor does any set behind a packet, nor a delimiter in
+/// an access unit of its timestamp.
+pub fn access_units_that_begin_by_content()
+    ensures delimiter { (r : DepacketizerState) → r.is_avc ≡ false →
+        let w = depacketization r (annex_b ((9 ∷ 16 ∷ []) ∷ []))
+        (extras.H264 (record { is_keyframe = false })) in
+        IsBegunSo r (rtp_body 5 true (9 ∷ 16 ∷ []) ∷ []) 7 0 w
+        (TookPacket (3, rtp_body 4 false (1 ∷ [])) ∷ []) }
+    ensures in_one { (r : DepacketizerState) (w : Depacketization) →
+        IsBegunSo r (rtp_body 5 true (9 ∷ 16 ∷ []) ∷ []) 7 0 w
+        (TookPacket (3, rtp_body 5 false (1 ∷ [])) ∷ []) → ⊥ }
+    ensures behind_one { (r : DepacketizerState) → r.is_avc ≡ false →
+        let w = depacketization r (annex_b ((9 ∷ 16 ∷ []) ∷ []))
+        (extras.H264 (record { is_keyframe = false })) in
+        IsBegunSo r (rtp_body 5 true (9 ∷ 16 ∷ []) ∷ []) 7 0 w
+        (EndedStream ∷ TookPacket (3, rtp_body 5 false (1 ∷ [])) ∷ []) }
+    ensures first_set { (r : DepacketizerState) (p : ℕ × RtpBody) → r.is_avc ≡ false →
+        let w = depacketization r (annex_b ((103 ∷ 66 ∷ []) ∷ []))
+        (extras.H264 (record { is_keyframe = false })) in
+        IsBegunSo r (rtp_body 5 true (103 ∷ 66 ∷ []) ∷ []) 7 0 w
+        (PassedPacket p ∷ DroppedAll ∷ TookPacket p ∷ []) }
+    ensures other_set { (r : DepacketizerState) → r.is_avc ≡ false →
+        let w = depacketization r (annex_b ((104 ∷ 206 ∷ []) ∷ []))
+        (extras.H264 (record { is_keyframe = false })) in
+        IsBegunSo r (rtp_body 5 true (104 ∷ 206 ∷ []) ∷ []) 7 0 w [] → ⊥ }
+    ensures later_set { (r : DepacketizerState) → r.is_avc ≡ false →
+        let w = depacketization r (annex_b ((103 ∷ 66 ∷ []) ∷ []))
+        (extras.H264 (record { is_keyframe = false })) in
+        IsBegunSo r (rtp_body 5 true (103 ∷ 66 ∷ []) ∷ []) 7 0 w
+        (TookPacket (3, rtp_body 4 false (1 ∷ [])) ∷ []) → ⊥ }
+{}
+
+/// Packets taken without a loss, from the first on or a later one, with the end of the stream behind
+/// them; not where one is missing, and where all was dropped since.
+pub fn packets_taken_without_loss()
+    ensures all { (r : DepacketizerState) → let a = rtp_body 4 true (1 ∷ []) in
+        let b = rtp_body 5 true (2 ∷ []) in let c = rtp_body 6 true (3 ∷ []) in
+        WereTakenWithoutLoss r (a ∷ b ∷ c ∷ []) 65535 1 1
+        (EndedStream ∷ TookPacket (1, c) ∷ TookPacket (0, b) ∷ TookPacket (65535, a) ∷ []) }
+    ensures later { (r : DepacketizerState) → let a = rtp_body 4 true (1 ∷ []) in
+        let b = rtp_body 5 true (2 ∷ []) in let c = rtp_body 6 true (3 ∷ []) in
+        WereTakenWithoutLoss r (a ∷ b ∷ c ∷ []) 65535 1 1
+        (TookPacket (1, c) ∷ TookPacket (0, b) ∷ ToldFirst 0 ∷ []) }
+    ensures last { (r : DepacketizerState) → bears_slice r.format (2 ∷ []) ≡ true →
+        let a = rtp_body 4 true (1 ∷ []) in let b = rtp_body 5 true (2 ∷ []) in
+        WereTakenWithoutLoss r (a ∷ b ∷ []) 65535 1 1
+        (TookPacket (0, b) ∷ TookPacket (65535, a) ∷ []) }
+    ensures open { (r : DepacketizerState) → bears_slice r.format (2 ∷ []) ≡ false →
+        let a = rtp_body 4 true (1 ∷ []) in let b = rtp_body 5 true (2 ∷ []) in
+        WereTakenWithoutLoss r (a ∷ b ∷ []) 65535 1 1
+        (TookPacket (0, b) ∷ TookPacket (65535, a) ∷ []) → ⊥ }
+    ensures lost { (r : DepacketizerState) → let a = rtp_body 4 true (1 ∷ []) in
+        let b = rtp_body 5 true (2 ∷ []) in let c = rtp_body 6 true (3 ∷ []) in
+        WereTakenWithoutLoss r (a ∷ b ∷ c ∷ []) 65535 1 1
+        (TookPacket (1, c) ∷ TookPacket (65535, a) ∷ []) → ⊥ }
+    ensures dropped { (r : DepacketizerState) → let a = rtp_body 4 true (1 ∷ []) in
+        let b = rtp_body 5 true (2 ∷ []) in WereTakenWithoutLoss r (a ∷ b ∷ []) 65535 0 1
+        (DroppedAll ∷ TookPacket (0, b) ∷ TookPacket (65535, a) ∷ ToldFirst 65535 ∷ []) → ⊥ }
 {}
 
 /// An access unit of two packets, by its sender: neither a part of it is one, nor none. It began behind

@@ -2,9 +2,9 @@
 
 ghost use Rattle.std.specs.Prelude.{◌≡◌};
 ghost use Rattle.h26x_assembler.specs.AccessUnit.{access_unit_value};
-ghost use Rattle.h26x_access_units.specs.ReceivedAccessUnit.{received_unit_value, received_unit, decoder_with};
+ghost use Rattle.h26x_access_units.specs.ReceivedAccessUnit.{received_unit_value, received_unit, decoder_with, told_of};
 
-use crate::content::content_of;
+use crate::content::{content_of, plain_slice};
 use crate::decoder::DecoderState;
 use crate::numbers::AccessUnitNumbers;
 use h26x_assembler::AccessUnit;
@@ -60,6 +60,63 @@ pub(crate) fn pass(
     *decoder = decoder.after(has_sets, unit.is_whole, unit.extra, numbers, content);
 }
 
+/// What is told of an access unit by what is known of a decoder.
+#[derive(Clone, Copy)]
+struct Told {
+    is_whole: bool,
+    is_clean: bool,
+    is_disposable: bool,
+}
+
+/// What is told of an access unit, and what is known of a decoder with it.
+#[inline(never)]
+fn told_of_any(
+    decoder: &mut DecoderState,
+    has_sets: bool,
+    is_avc: bool,
+    unit: &AccessUnit,
+    numbers: AccessUnitNumbers,
+) -> Told
+    ensures told { result ≡ told_of decoder.old has_sets is_avc (access_unit_value unit.now) numbers }
+    ensures decoder { decoder.new
+        ≡ decoder_with decoder.old has_sets is_avc (access_unit_value unit.now) numbers }
+{
+    let content = content_of(is_avc, unit.extra, &unit.bytes);
+    let before = *decoder;
+    let after = before.after(has_sets, unit.is_whole, unit.extra, numbers, content);
+    *decoder = after;
+    Told {
+        is_whole: before.tells_whole(unit.is_whole, unit.extra, numbers, content),
+        is_clean: after.shows(unit.is_whole),
+        is_disposable: before.is_disposable(numbers, content),
+    }
+}
+
+/// So, with less work where it follows the one before and begins with a slice of no keyframe.
+#[inline]
+fn told_of(
+    decoder: &mut DecoderState,
+    has_sets: bool,
+    is_avc: bool,
+    unit: &AccessUnit,
+    numbers: AccessUnitNumbers,
+) -> Told
+    ensures told { result ≡ told_of decoder.old has_sets is_avc (access_unit_value unit.now) numbers }
+    ensures decoder { decoder.new
+        ≡ decoder_with decoder.old has_sets is_avc (access_unit_value unit.now) numbers }
+{
+    if unit.is_whole && numbers.follows {
+        if let Some((slice, framed)) = plain_slice(is_avc, unit.extra, &unit.bytes) {
+            return Told {
+                is_whole: !numbers.continues,
+                is_clean: decoder.is_clean,
+                is_disposable: decoder.go_on(numbers, slice, framed),
+            };
+        }
+    }
+    told_of_any(decoder, has_sets, is_avc, unit, numbers)
+}
+
 impl ReceivedAccessUnit {
     /// An access unit with its numbers, by what is known of a decoder, and then with it.
     #[inline]
@@ -75,17 +132,14 @@ impl ReceivedAccessUnit {
         ensures decoder { decoder.new
             ≡ decoder_with decoder.old has_sets is_avc (access_unit_value unit) numbers }
     {
-        let content = content_of(is_avc, unit.extra, &unit.bytes);
-        let before = *decoder;
-        let after = before.after(has_sets, unit.is_whole, unit.extra, numbers, content);
-        *decoder = after;
+        let told = told_of(decoder, has_sets, is_avc, &unit, numbers);
         ReceivedAccessUnit {
             timestamp: unit.timestamp,
             bytes: unit.bytes,
             extra: unit.extra,
-            is_whole: before.tells_whole(unit.is_whole, unit.extra, numbers, content),
-            is_clean: after.shows(unit.is_whole),
-            is_disposable: before.is_disposable(numbers, content),
+            is_whole: told.is_whole,
+            is_clean: told.is_clean,
+            is_disposable: told.is_disposable,
             continues: numbers.continues,
             first: numbers.first,
             last: numbers.last,

@@ -14,8 +14,8 @@ ghost use Rattle.h26x_access_units.specs.declared.decoder.DecoderState.{DecoderS
 ghost use Rattle.h26x_access_units.specs.Content.{content_of};
 ghost use Rattle.h26x_access_units.specs.Decoder.{is_front};
 ghost use Rattle.h26x_access_units.specs.Framing.{shown_by};
-ghost use Rattle.h26x_access_units.specs.Account.{PushCall, FinishCall, BeginCall};
-ghost use Rattle.h26x_access_units.specs.WholeSent.{told_numbers, reads_no_unit, has_no_text, begins_unit, bears_slice, IsSliceBefore, IsNextBegun, is_last_marked, nothing_written, ArePacketsOf, IsRightBehind, IsBegunInOrder, IsBegunByContent, IsUnitEnded, IsOfWholePackets, sent_at, sent_number, sent_payloads, IsSentAt, IsUnitFront, IsFrontNumber, IsFrontNowhere, IsSender, CameFromSender, IsWrittenOf, WasSent};
+ghost use Rattle.h26x_access_units.specs.Account.{PushCall, FinishCall, RestartCall, BeginCall};
+ghost use Rattle.h26x_access_units.specs.WholeSent.{told_numbers, since_restart, reads_no_unit, has_no_text, begins_unit, bears_slice, IsSliceBefore, IsNextBegun, is_last_marked, nothing_written, ArePacketsOf, IsRightBehind, IsBegunInOrder, IsBegunByContent, IsUnitEnded, IsOfWholePackets, sent_at, sent_number, sent_payloads, IsSentAt, IsUnitFront, IsFrontNumber, IsFrontNowhere, IsSender, CameFromSender, IsWrittenOf, WasSent};
 ghost use Rattle.h26x_access_units.specs.UnitsSent.{sent_packets, AreNeighboursApart, IsOneSent, IsWrittenAsSent, call_units, told_unit};
 ghost use Rattle.h26x_assembler.specs.StampedCalls.{StampedCall, access_unit_packets, after_call, sent_unit};
 ghost use Rattle.h26x_assembler.specs.AccessUnit.{is_run_closed};
@@ -28,6 +28,13 @@ use crate::pushed::Pushed;
 pub fn numbers_that_were_told()
     ensures two { told_numbers (BeginCall 7 ∷ FinishCall ∷ BeginCall 5 ∷ []) ≡ 7 ∷ 5 ∷ [] }
     ensures none { told_numbers (PushCall 0 (7, rtp_body 0 false []) Pushed.Held ∷ []) ≡ [] }
+{}
+
+/// The calls since the last `restart`, the last one first; all where none was.
+pub fn calls_since_a_restart()
+    ensures since { since_restart (FinishCall ∷ BeginCall 7 ∷ RestartCall ∷ BeginCall 5
+        ∷ RestartCall ∷ []) ≡ FinishCall ∷ BeginCall 7 ∷ [] }
+    ensures all { since_restart (FinishCall ∷ BeginCall 7 ∷ []) ≡ FinishCall ∷ BeginCall 7 ∷ [] }
 {}
 
 /// A packet bears nothing that has no payload, or that is refused for its type; one that is too short
@@ -167,8 +174,8 @@ pub fn senders()
     ensures behind { (r : DepacketizerState) → bears_slice r.format (1 ∷ []) ≡ true →
         begins_unit r.format (2 ∷ []) ≡ true → IsSender r (rtp_body 5 false (1 ∷ [])
         ∷ rtp_body 5 true (2 ∷ []) ∷ []) → ⊥ }
-    ensures few { (r : DepacketizerState) (sent : List RtpBody) → IsSender r sent →
-        length sent ≤ 32768 }
+    ensures few { (r : DepacketizerState) (sent : List RtpBody) (first : ℕ) →
+        CameFromSender [] [] r sent first → length sent ≤ 32768 }
     ensures untold { (r : DepacketizerState) → CameFromSender (7 ∷ []) [] r
         (rtp_body 5 true (1 ∷ []) ∷ rtp_body 6 true (1 ∷ []) ∷ []) 65535 → ⊥ }
     ensures came { (r : DepacketizerState) → has_no_text r.format (1 ∷ []) ≡ false →

@@ -392,7 +392,7 @@ impl OpenAccessUnit {
     }
 
     /// Appends it, if one is open, and gives up the run.
-    #[inline]
+    #[inline(always)]
     pub(crate) fn finish(&mut self, follows: bool, out: &mut Vec<AccessUnit>)
         requires { vec_len out.old + 1 ≤ vec_capacity out.old }
         ensures none { self.new ≡ none_open }
@@ -404,6 +404,24 @@ impl OpenAccessUnit {
         self.is_gap = false;
         self.closed = None;
         self.left.close();
+        if self.unit.is_some() {
+            self.finish_open(follows, out);
+        }
+    }
+
+    /// Appends the one that is open, where no more is known.
+    #[inline(never)]
+    fn finish_open(&mut self, follows: bool, out: &mut Vec<AccessUnit>)
+        requires open { is_some self.old.unit ≡ true }
+        requires gap { self.old.is_gap ≡ false }
+        requires closed { self.old.closed ≡ None }
+        requires room { vec_len out.old + 1 ≤ vec_capacity out.old }
+        ensures none { self.new ≡ none_open }
+        ensures out { unit_views out.new.items ≡ unit_views out.old.items
+            ++ given_out (follows && is_run_closed self.old.run) self.old.unit }
+        ensures len { vec_len out.new ≤ vec_len out.old + 1 }
+        ensures capacity { vec_capacity out.old ≤ vec_capacity out.new }
+    {
         if let Some(unit) = self.unit.take() {
             let is_closed = unit.text.run_len() == 0;
             out.push(unit.finish(follows && is_closed)).unwrap();

@@ -5,3 +5,4 @@
 mod access_units;
 mod every_unit;
 mod receiver;
+mod told_whole;

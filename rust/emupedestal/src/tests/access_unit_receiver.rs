@@ -219,6 +219,28 @@ fn texts_longer_than_the_limit() {
     }
 }
 
+/// A limit lowered while a unit comes in fragments: the text before them goes, and the unit is put together.
+#[test]
+fn a_limit_lowered_inside_a_unit() {
+    let mut it = receiver(1, u32::MAX);
+    let slice = "61000102030405060708090a0b0c0d0e0f";
+    push(&mut it, 0, (7, 10, false, slice)).unwrap();
+    push(&mut it, 0, (8, 10, false, "7c810203")).unwrap();
+    assert!(units(&mut it, 0).is_empty());
+    let lower = AccessUnitConfig {
+        unit_limit: 20,
+        ..it.config()
+    };
+    it.set_config(lower);
+    push(&mut it, 0, (9, 10, false, "7c0104")).unwrap();
+    assert!(units(&mut it, 0).is_empty());
+    push(&mut it, 0, (10, 10, true, "7c4105")).unwrap();
+    let ended = units(&mut it, 0);
+    assert_eq!(ended[0].bytes, bytes("00000001 6102030405"));
+    assert_eq!((ended.len(), ended[0].is_whole), (1, false));
+    assert_eq!(it.counts().texts_given_up, 1);
+}
+
 #[test]
 fn packets_by_value() {
     let mut it = receiver(1, u32::MAX);

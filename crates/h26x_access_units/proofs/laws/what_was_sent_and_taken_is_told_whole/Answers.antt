@@ -3,5 +3,5 @@ use Rattle.h26x_access_units.proofs.ToldCallLemmas.{taken_told_whole}
 use Rattle.h26x_access_units.proofs.laws.what_was_sent_and_taken_is_told_whole.Goals as goal
 
 pub returns : goal.returns
-returns c = λ config state calls s sent first place count are ok sender of unit taken written empty.
-    taken_told_whole config state calls s sent first place count are (c.depacketizers_go_on.ensures (nothing_written state) ok) sender of unit taken written empty
+returns c = λ config state calls s sent first place count due are ok sender of unit taken written empty.
+    taken_told_whole config state calls s sent first place count due are (c.depacketizers_go_on.ensures (nothing_written state) ok) sender of unit taken written empty

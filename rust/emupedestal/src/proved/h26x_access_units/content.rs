@@ -101,11 +101,11 @@ pub(crate) fn byte_at(unit: &[u8], place: usize) -> u8 {
 
 /// The eight bytes behind the header of an H.264 slice, 0 behind the end.
 #[inline]
-fn slice_head(unit: &[u8]) -> [u8; 8] {
+pub(crate) fn slice_head(unit: &[u8]) -> [u8; 8] {
     if unit.len() > 8 {
-        return [
-            unit[1], unit[2], unit[3], unit[4], unit[5], unit[6], unit[7], unit[8],
-        ];
+        let mut head = [0; 8];
+        head.copy_from_slice(&unit[1..9]);
+        return head;
     }
     [
         byte_at(unit, 1),
@@ -308,4 +308,28 @@ pub(crate) fn content_of(is_avc: bool, extra: CodecExtra, text: &[u8]) -> Conten
         rest = behind;
     }
     content
+}
+
+/// An H.264 unit, of which the bytes behind the header tell a frame number.
+#[inline]
+fn framed(extra: CodecExtra, unit: &[u8]) -> Option<&[u8]> {
+    match extra {
+        CodecExtra::H264(_) => Some(unit),
+        _ => None,
+    }
+}
+
+/// The first unit of a text where that is a slice of no keyframe, and its bytes where they tell a frame
+/// number; none where it isn't.
+#[inline]
+pub(crate) fn plain_slice(
+    is_avc: bool,
+    extra: CodecExtra,
+    text: &[u8],
+) -> Option<(Slice, Option<&[u8]>)> {
+    let (unit, _) = first_unit(is_avc, text)?;
+    match content_kind(extra, unit) {
+        UnitKind::Slice(slice) if !slice.is_key => Some((slice, framed(extra, unit))),
+        _ => None,
+    }
 }

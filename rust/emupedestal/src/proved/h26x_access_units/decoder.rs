@@ -2,7 +2,9 @@
 
 //! What is known of a decoder that is given the access units, one after the other.
 
-use crate::proved::h26x_access_units::content::{Content, ParameterSets, UnitKind};
+use crate::proved::h26x_access_units::content::{
+    Content, ParameterSets, Slice, UnitKind, slice_head,
+};
 use crate::proved::h26x_access_units::frame_number::{Numbering, tells_none_lost};
 use crate::proved::h26x_access_units::numbers::AccessUnitNumbers;
 use crate::proved::h26x_core::CodecExtra;
@@ -268,5 +270,29 @@ impl DecoderState {
             has_long_key: self.long_key_after(numbers, content),
             has_begun: true,
         }
+    }
+
+    /// Once an access unit is given out that is unbroken, follows the one before, and begins with a
+    /// slice of no keyframe, whose bytes tell a frame number or don't. The answer is whether no picture
+    /// refers to its own.
+    #[inline]
+    pub(crate) fn go_on(
+        &mut self,
+        numbers: AccessUnitNumbers,
+        slice: Slice,
+        framed: Option<&[u8]>,
+    ) -> bool {
+        self.has_begun = true;
+        if slice.is_unreferenced {
+            if !numbers.is_counted {
+                self.last_head = None;
+            }
+            return slice.layer == 0 || slice.layer == self.highest_layer;
+        }
+        self.last_head = match framed {
+            Some(unit) if slice.is_first => Some(slice_head(unit)),
+            _ => None,
+        };
+        false
     }
 }

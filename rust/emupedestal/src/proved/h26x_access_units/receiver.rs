@@ -57,6 +57,15 @@ fn anew_with(
     Ok(waiting)
 }
 
+/// Removes the first of access units: where it is the only one nothing moves.
+#[inline]
+fn remove_first(units: &mut Vec<AccessUnit>) -> AccessUnit {
+    if units.len() == 1 {
+        return units.pop().unwrap();
+    }
+    units.remove(0)
+}
+
 /// What a receiver is to contracts.
 pub trait Receives {
     /// What it has counted.
@@ -422,7 +431,7 @@ impl<D: RunDepacketizer> AccessUnitReceiver<D> {
         if self.ended.is_empty() {
             return None;
         }
-        let unit = self.ended.remove(0);
+        let unit = remove_first(&mut self.ended);
         let numbers = self.numbers.give();
         let is_avc = self.assembler.packets.depacketizer.is_avc();
         let has_sets = self.waiting.config().has_sets;
@@ -436,7 +445,11 @@ impl<D: RunDepacketizer> AccessUnitReceiver<D> {
     ///
     /// Without memory the error is `OutOfMemory`: what was taken before stays taken, and the packet for
     /// which memory lacks is due still.
+    #[inline]
     pub fn next(&mut self, now: u32) -> Result<Option<ReceivedAccessUnit>, PacketError> {
+        if self.has_unit() {
+            return Ok(self.give());
+        }
         if self.is_idle() {
             return Ok(None);
         }
@@ -447,6 +460,15 @@ impl<D: RunDepacketizer> AccessUnitReceiver<D> {
     #[inline]
     fn is_idle(&self) -> bool {
         !self.has_ended() && !self.is_anew && self.waiting.waits_for_none()
+    }
+
+    /// Whether the first access unit that ended has bytes, so that it is the next.
+    #[inline]
+    fn has_unit(&self) -> bool {
+        match self.ended.first() {
+            Some(unit) => !unit.bytes.is_empty(),
+            None => false,
+        }
     }
 
     /// What `next` does.

@@ -2,7 +2,7 @@
 
 //! Access units as a receiver gives them out.
 
-use crate::proved::h26x_access_units::content::content_of;
+use crate::proved::h26x_access_units::content::{content_of, plain_slice};
 use crate::proved::h26x_access_units::decoder::DecoderState;
 use crate::proved::h26x_access_units::numbers::AccessUnitNumbers;
 use crate::proved::h26x_assembler::AccessUnit;
@@ -75,6 +75,55 @@ pub(crate) fn pass(
     *decoder = decoder.after(has_sets, unit.is_whole, unit.extra, numbers, content);
 }
 
+/// What is told of an access unit by what is known of a decoder.
+#[derive(Clone, Copy)]
+struct Told {
+    is_whole: bool,
+    is_clean: bool,
+    is_disposable: bool,
+}
+
+/// What is told of an access unit, and what is known of a decoder with it.
+#[inline(never)]
+fn told_of_any(
+    decoder: &mut DecoderState,
+    has_sets: bool,
+    is_avc: bool,
+    unit: &AccessUnit,
+    numbers: AccessUnitNumbers,
+) -> Told {
+    let content = content_of(is_avc, unit.extra, &unit.bytes);
+    let before = *decoder;
+    let after = before.after(has_sets, unit.is_whole, unit.extra, numbers, content);
+    *decoder = after;
+    Told {
+        is_whole: before.tells_whole(unit.is_whole, unit.extra, numbers, content),
+        is_clean: after.shows(unit.is_whole),
+        is_disposable: before.is_disposable(numbers, content),
+    }
+}
+
+/// So, with less work where it follows the one before and begins with a slice of no keyframe.
+#[inline]
+fn told_of(
+    decoder: &mut DecoderState,
+    has_sets: bool,
+    is_avc: bool,
+    unit: &AccessUnit,
+    numbers: AccessUnitNumbers,
+) -> Told {
+    if unit.is_whole && numbers.follows {
+        if let Some((slice, framed)) = plain_slice(is_avc, unit.extra, &unit.bytes) {
+            return Told {
+                is_whole: !numbers.continues,
+                is_clean: decoder.is_clean,
+                is_disposable: decoder.go_on(numbers, slice, framed),
+            };
+        }
+    }
+    told_of_any(decoder, has_sets, is_avc, unit, numbers)
+}
+
 impl ReceivedAccessUnit {
     /// An access unit with its numbers, by what is known of a decoder, and then with it.
     #[inline]
@@ -85,17 +134,14 @@ impl ReceivedAccessUnit {
         unit: AccessUnit,
         numbers: AccessUnitNumbers,
     ) -> Self {
-        let content = content_of(is_avc, unit.extra, &unit.bytes);
-        let before = *decoder;
-        let after = before.after(has_sets, unit.is_whole, unit.extra, numbers, content);
-        *decoder = after;
+        let told = told_of(decoder, has_sets, is_avc, &unit, numbers);
         ReceivedAccessUnit {
             timestamp: unit.timestamp,
             bytes: unit.bytes,
             extra: unit.extra,
-            is_whole: before.tells_whole(unit.is_whole, unit.extra, numbers, content),
-            is_clean: after.shows(unit.is_whole),
-            is_disposable: before.is_disposable(numbers, content),
+            is_whole: told.is_whole,
+            is_clean: told.is_clean,
+            is_disposable: told.is_disposable,
             continues: numbers.continues,
             first: numbers.first,
             last: numbers.last,

@@ -292,11 +292,19 @@ impl OpenAccessUnit {
     }
 
     /// Appends it, if one is open, and gives up the run.
-    #[inline]
+    #[inline(always)]
     pub(crate) fn finish(&mut self, follows: bool, out: &mut Vec<AccessUnit>) {
         self.is_gap = false;
         self.closed = None;
         self.left.close();
+        if self.unit.is_some() {
+            self.finish_open(follows, out);
+        }
+    }
+
+    /// Appends the one that is open, where no more is known.
+    #[inline(never)]
+    fn finish_open(&mut self, follows: bool, out: &mut Vec<AccessUnit>) {
         if let Some(unit) = self.unit.take() {
             let is_closed = unit.text.run_len() == 0;
             out.push(unit.finish(follows && is_closed));

@@ -16,9 +16,9 @@ pub returns-clause-unit : goal.returns-clause-unit
 returns-clause-unit g c =
     let old = c.args.self.now in
     let s = reception old.waiting (option_map numbered_packet old.stray) old.is_anew old.passed (assembly_at g.D.RunDepacketizer.state old.assembler old.ended.items) old.framing old.numbers old.decoder old.counts old.assembler.packets.run_limit old.assembler.unit_limit in
-    let unit = access_unit_value c.remove-unit.result in
+    let unit = access_unit_value c.remove_first-unit.result in
     let some : (length old.ended.items == 0) ≡ false = search rules in
-    let front = front_removed old.ended.items c.remove-unit.new.self.items c.remove-unit.result some c.remove-unit.ensures.value c.remove-unit.ensures.items in
+    let front = front_removed old.ended.items c.remove_first-unit.new.units.items c.remove_first-unit.result some c.remove_first-unit.ensures.value c.remove_first-unit.ensures.items in
     let sets = ap (λ (it : AccessUnitConfig). it.has_sets) c.config-has_sets.ensures.settings in
     ap (λ (it : ReceivedAccessUnitValue). Some it) (c.of-unit.ensures.unit
     ∙ ap (λ (b : Bool). received_unit s.decoder b c.is_avc-is_avc.result unit c.give-numbers.result) sets
@@ -30,9 +30,9 @@ pub returns-clause-after : goal.returns-clause-after
 returns-clause-after g c =
     let old = c.args.self.now in
     let s = reception old.waiting (option_map numbered_packet old.stray) old.is_anew old.passed (assembly_at g.D.RunDepacketizer.state old.assembler old.ended.items) old.framing old.numbers old.decoder old.counts old.assembler.packets.run_limit old.assembler.unit_limit in
-    let unit = access_unit_value c.remove-unit.result in
+    let unit = access_unit_value c.remove_first-unit.result in
     let some : (length old.ended.items == 0) ≡ false = search rules in
-    let front = front_removed old.ended.items c.remove-unit.new.self.items c.remove-unit.result some c.remove-unit.ensures.value c.remove-unit.ensures.items in
+    let front = front_removed old.ended.items c.remove_first-unit.new.units.items c.remove_first-unit.result some c.remove_first-unit.ensures.value c.remove_first-unit.ensures.items in
     let sets = ap (λ (it : AccessUnitConfig). it.has_sets) c.config-has_sets.ensures.settings in
     let same = c.of-unit.ensures.unit
     ∙ ap (λ (b : Bool). received_unit s.decoder b c.is_avc-is_avc.result unit c.give-numbers.result) sets
@@ -42,4 +42,4 @@ returns-clause-after g c =
     ∙ ap (λ (b : Bool). decoder_with s.decoder b c.is_avc-is_avc.result unit c.give-numbers.result) sets
     ∙ ap (λ (b : Bool). decoder_with s.decoder s.waiting.config.has_sets b unit c.give-numbers.result) c.is_avc-is_avc.ensures
     ∙ ap (λ (n : AccessUnitNumbers). decoder_with s.decoder s.waiting.config.has_sets s.assembler.state.is_avc unit n) c.give-numbers.ensures.numbers in
-    sym (without_front s unit (map access_unit_value c.remove-unit.new.self.items) c.give-numbers.new.self c.of-unit.new.decoder c.unit.new.self front c.give-numbers.ensures.after decoder (c.unit.ensures ∙ ap (λ (it : ReceivedAccessUnitValue). counted_unit s.counts it.is_whole) same))
+    sym (without_front s unit (map access_unit_value c.remove_first-unit.new.units.items) c.give-numbers.new.self c.of-unit.new.decoder c.unit.new.self front c.give-numbers.ensures.after decoder (c.unit.ensures ∙ ap (λ (it : ReceivedAccessUnitValue). counted_unit s.counts it.is_whole) same))
