@@ -7,14 +7,15 @@ use Rattle.std.proofs.lemmas.Bool.Decides.{nat_tests}
 use Rattle.hex.specs.Hex.{IsBytes}
 use Rattle.h26x_sdp.specs.declared.h264.H264Parameter.{H264Parameter}
 use Rattle.h26x_sdp.specs.declared.h264.H264Parameter.TheVariants as p
+use Rattle.h26x_answers.specs.declared.answer.AnswerRules.{AnswerRules}
 use Rattle.h26x_answers.specs.declared.answer.h264.ProfileLevelId.{ProfileLevelId}
 use Rattle.h26x_fmtp.specs.Kinds.{number_of}
 use Rattle.h26x_fmtp.specs.Tables.{ParameterRow, row_at}
 use Rattle.h26x_fmtp.specs.Parameters.{AreValues, AreParameters}
-use Rattle.h26x_fmtp.specs.Reading.{FormatParameters, value_at, value_or_default}
+use Rattle.h26x_fmtp.specs.Reading.{FormatParameters, value_at}
 use Rattle.h26x_sdp.specs.H264Rows.{rows, row_place}
 use Rattle.h26x_answers.specs.Answers.{Terms, only_if, answered_values, answered, are_symmetric, common_terms, answer_by, same_number, holds}
-use Rattle.h26x_answers.specs.AnswersH264.{roles, rules, number, is_on, id_of, profile_level_id_of, profile_level_id_text, at_level_of, level_rank, same_profile, highest_of, highest_rank, is_interleaved, can_deinterleave, can_order, both_asymmetric, answer_level, answer_id, rank_back, may_tell_sets, with_level_sets, terms_at, terms_of_ids, terms}
+use Rattle.h26x_answers.specs.AnswersH264.{roles, rules, number, is_on, unsaid_id, id_of, profile_level_id_of, profile_level_id_text, at_level_of, level_rank, takes_profile, highest_of, highest_rank, is_interleaved, can_deinterleave, can_order, both_asymmetric, answer_level, answer_id, rank_back, may_tell_sets, with_level_sets, terms_at, terms_of_ids, terms}
 use Rattle.h26x_answers.specs.AllowedH264.{IsSameProfile, IsH264Answer, MaySend, rank_to_use}
 use Rattle.h26x_fmtp.proofs.PartLemmas.{by_test}
 use Rattle.h26x_answers.proofs.AnswersLemmas.{answered_at, answer_parts}
@@ -28,35 +29,35 @@ long_values (r ∷ table) [] are = absurd are
 long_values (r ∷ table) (v ∷ values) are = let e = long_values table values are.1 in omega (arith, e)
 
 -- two formats, their profiles and levels, and what they agree on
-pub record Agreed (offered own : FormatParameters) (found : Terms) : Type 0 where
+pub record Agreed (by : AnswerRules) (offered own : FormatParameters) (found : Terms) : Type 0 where
   pub a : ProfileLevelId
   pub b : ProfileLevelId
-  pub offer_says : id_of offered ≡ Some a
-  pub own_says : id_of own ≡ Some b
-  pub profile : same_profile a b ≡ true
+  pub offer_says : id_of by offered ≡ Some a
+  pub own_says : id_of by own ≡ Some b
+  pub profile : takes_profile by a b ≡ true
   pub order : can_order offered own ≡ true
   pub is : found ≡ terms_at offered (both_asymmetric offered own) a b (answer_level (both_asymmetric offered own) a b)
 
-pub agreed_ids : (offered own : FormatParameters) (found : Terms) (x y : Option ProfileLevelId) → id_of offered ≡ x → id_of own ≡ y → terms_of_ids offered own x y ≡ Some found → Agreed offered own found
-agreed_ids offered own found None y ex ey h = cc h
-agreed_ids offered own found (Some a) None ex ey h = cc h
-agreed_ids offered own found (Some a) (Some b) ex ey h = by_test (same_profile a b && can_order offered own)
+pub agreed_ids : (by : AnswerRules) (offered own : FormatParameters) (found : Terms) (x y : Option ProfileLevelId) → id_of by offered ≡ x → id_of by own ≡ y → terms_of_ids by offered own x y ≡ Some found → Agreed by offered own found
+agreed_ids by offered own found None y ex ey h = cc h
+agreed_ids by offered own found (Some a) None ex ey h = cc h
+agreed_ids by offered own found (Some a) (Some b) ex ey h = by_test (takes_profile by a b && can_order offered own)
     (λ both.
     let at = terms_at offered (both_asymmetric offered own) a b (answer_level (both_asymmetric offered own) a b) in
     let e : Some at ≡ Some found = sym (ap (λ t. cond t (Some at) None) both) ∙ h in
-    let parts = and_parts (same_profile a b) (can_order offered own) both in
+    let parts = and_parts (takes_profile by a b) (can_order offered own) both in
     record { a = a; b = b; offer_says = ex; own_says = ey; profile = parts.0; order = parts.1; is = cc e })
     (λ other.
     let at = terms_at offered (both_asymmetric offered own) a b (answer_level (both_asymmetric offered own) a b) in
     let e : None ≡ Some found = sym (ap (λ t. cond t (Some at) None) other) ∙ h in
     cc e)
 
-pub agreed_common : (offered own : FormatParameters) (found : Terms) → common_terms rules offered own ≡ Some found → Agreed offered own found
-agreed_common offered own found h = by_test (are_symmetric roles rows offered.values own.values)
-    (λ same. agreed_ids offered own found (id_of offered) (id_of own) refl refl
-    (sym (ap (λ t. cond t (terms offered own) None) same) ∙ h))
+pub agreed_common : (by : AnswerRules) (offered own : FormatParameters) (found : Terms) → common_terms (rules by) offered own ≡ Some found → Agreed by offered own found
+agreed_common by offered own found h = by_test (are_symmetric roles rows offered.values own.values)
+    (λ same. agreed_ids by offered own found (id_of by offered) (id_of by own) refl refl
+    (sym (ap (λ t. cond t (terms by offered own) None) same) ∙ h))
     (λ other.
-    let e : None ≡ Some found = sym (ap (λ t. cond t (terms offered own) None) other) ∙ h in
+    let e : None ≡ Some found = sym (ap (λ t. cond t (terms by offered own) None) other) ∙ h in
     cc e)
 
 -- what a text's bytes are, of parameters
@@ -64,8 +65,8 @@ bytes_of_text : (text : Option (List ℕ)) (it : ProfileLevelId) → option_and_
 bytes_of_text None it h = cc h
 bytes_of_text (Some text) it h = id_bytes text it h
 
-pub id_of_bytes : (of : FormatParameters) (it : ProfileLevelId) → id_of of ≡ Some it → IsBytes (bytes_in it)
-id_of_bytes of it h = bytes_of_text (value_or_default rows of 0) it h
+pub id_of_bytes : (by : AnswerRules) (of : FormatParameters) (it : ProfileLevelId) → id_of by of ≡ Some it → IsBytes (bytes_in it)
+id_of_bytes by of it h = bytes_of_text (option_or (value_at of.values 0) (unsaid_id by)) it h
 
 pub level_bytes : (asymmetric : Bool) (a b : ProfileLevelId) → IsBytes (bytes_in a) → IsBytes (bytes_in b) → IsBytes (bytes_in (answer_level asymmetric a b))
 level_bytes asymmetric a b of_a of_b = by_test (asymmetric || nat_lt (level_rank b) (level_rank a))
@@ -73,25 +74,25 @@ level_bytes asymmetric a b of_a of_b = by_test (asymmetric || nat_lt (level_rank
     (λ h. subst (λ t. IsBytes (bytes_in (cond t b a))) (sym h) of_a)
 
 -- a profile-level-id of the offer's profile and of a level's rank
-pub record Says (it : FormatParameters) (a : ProfileLevelId) (rank : ℕ) : Type 0 where
+pub record Says (by : AnswerRules) (it : FormatParameters) (a : ProfileLevelId) (rank : ℕ) : Type 0 where
   pub id : ProfileLevelId
-  pub says : id_of it ≡ Some id
+  pub says : id_of by it ≡ Some id
   pub profile : IsSameProfile id a
   pub level : level_rank id ≡ rank
 
-pub answer_says : (offered answer : FormatParameters) (a level : ProfileLevelId) → id_of offered ≡ Some a → IsBytes (bytes_in a) → IsBytes (bytes_in level)
-    → value_at answer.values 0 ≡ answer_id offered a level → Says answer a (level_rank level)
-answer_says offered answer a level says of_a of_level here = by_test (level_rank a == level_rank level)
+pub answer_says : (by : AnswerRules) (offered answer : FormatParameters) (a level : ProfileLevelId) → id_of by offered ≡ Some a → IsBytes (bytes_in a) → IsBytes (bytes_in level)
+    → value_at answer.values 0 ≡ answer_id offered a level → Says by answer a (level_rank level)
+answer_says by offered answer a level says of_a of_level here = by_test (level_rank a == level_rank level)
     (λ same. record {
       id = a;
-      says = ap (λ v. option_and_then profile_level_id_of (option_or v (row_at rows 0).default))
+      says = ap (λ v. option_and_then profile_level_id_of (option_or v (unsaid_id by)))
           (here ∙ ap (λ t. cond t (value_at offered.values 0) (Some (profile_level_id_text (at_level_of a level)))) same) ∙ says;
       profile = record { idc = refl; flags = refl };
       level = eqb-true (level_rank a) (level_rank level) same;
     })
     (λ other. record {
       id = at_level_of a level;
-      says = ap (λ v. option_and_then profile_level_id_of (option_or v (row_at rows 0).default))
+      says = ap (λ v. option_and_then profile_level_id_of (option_or v (unsaid_id by)))
           (here ∙ ap (λ t. cond t (value_at offered.values 0) (Some (profile_level_id_text (at_level_of a level)))) other)
           ∙ id_read (at_level_of a level) (moved_bytes a level of_a of_level);
       profile = profile_kept a level;
@@ -111,8 +112,8 @@ pub record Rows (offered own answer : FormatParameters) (found : Terms) : Type 0
   pub time : value_at answer.values 18 ≡ only_if found.reorders (value_at own.values 18)
   pub difference : value_at answer.values 19 ≡ only_if found.reorders (value_at own.values 19)
 
-pub answer_rows : (offered own answer : FormatParameters) (found : Terms) → AreParameters rows offered → AreParameters rows own → answer ≡ answered rules offered own found → Rows offered own answer found
-answer_rows offered own answer found of_offered of_own e =
+pub answer_rows : (by : AnswerRules) (offered own answer : FormatParameters) (found : Terms) → AreParameters rows offered → AreParameters rows own → answer ≡ answered (rules by) offered own found → Rows offered own answer found
+answer_rows by offered own answer found of_offered of_own e =
     let lo : length offered.values ≡ length roles = long_values rows offered.values of_offered.values in
     let lu : length own.values ≡ length roles = long_values rows own.values of_own.values in
     let at : (k : ℕ) → k < length roles → value_at answer.values k ≡ value_at (answered_values found roles offered.values own.values) k =
@@ -214,19 +215,19 @@ hold_of_answer offered own answer depth need =
     ∙ ap (λ n. holds_by (value_at own.values 15) n (value_at offered.values 17)) need
 
 -- each answer is allowed
-pub allowed : (offered own answer : FormatParameters) → AreParameters rows offered → AreParameters rows own → answer_by rules offered own ≡ Some answer → IsH264Answer offered answer
-allowed offered own answer of_offered of_own h =
-    let (found, common, is) = answer_parts rules offered own answer (common_terms rules offered own) h in
-    let agreed = agreed_common offered own found common in
-    let at = answer_rows offered own answer found of_offered of_own is in
+pub allowed : (by : AnswerRules) (offered own answer : FormatParameters) → AreParameters rows offered → AreParameters rows own → answer_by (rules by) offered own ≡ Some answer → IsH264Answer by offered answer
+allowed by offered own answer of_offered of_own h =
+    let (found, common, is) = answer_parts (rules by) offered own answer (common_terms (rules by) offered own) h in
+    let agreed = agreed_common by offered own found common in
+    let at = answer_rows by offered own answer found of_offered of_own is in
     let a = agreed.a in
     let b = agreed.b in
     let asymmetric = both_asymmetric offered own in
     let level = answer_level asymmetric a b in
     let back = rank_back offered asymmetric a level in
-    let of_a = id_of_bytes offered a agreed.offer_says in
-    let of_b = id_of_bytes own b agreed.own_says in
-    let says = answer_says offered answer a level agreed.offer_says of_a (level_bytes asymmetric a b of_a of_b)
+    let of_a = id_of_bytes by offered a agreed.offer_says in
+    let of_b = id_of_bytes by own b agreed.own_says in
+    let says = answer_says by offered answer a level agreed.offer_says of_a (level_bytes asymmetric a b of_a of_b)
     (at.id ∙ ap (λ (t : Terms). t.level) agreed.is) in
     let mode = number_same answer offered p.PacketizationMode at.mode in
     let interleaved : is_interleaved answer ≡ is_interleaved offered = ap (λ n. same_number n (Some 2)) mode in
@@ -280,16 +281,16 @@ use_within sender receiver s r =
     (λ both. subst (λ t. cond t (highest_rank receiver r) (min (level_rank s) (level_rank r)) ≤ highest_rank receiver r) (sym both) (omega arith))
     (λ other. subst (λ t. cond t (highest_rank receiver r) (min (level_rank s) (level_rank r)) ≤ highest_rank receiver r) (sym other) (omega (arith, high)))
 
-pub sends_forth : (offered answer : FormatParameters) (it : IsH264Answer offered answer) → MaySend offered answer it.theirs it.ours
-sends_forth offered answer it = record {
+pub sends_forth : (by : AnswerRules) (offered answer : FormatParameters) (it : IsH264Answer by offered answer) → MaySend offered answer it.theirs it.ours
+sends_forth by offered answer it = record {
   profile = record { idc = sym it.profile.idc; flags = sym it.profile.flags };
   mode = sym it.mode;
   level = use_within offered answer it.theirs it.ours;
   buffer = λ passes. (it.interleaved (ap (λ n. same_number n (Some 2)) it.mode ∙ passes)).0;
 }
 
-pub sends_back : (offered answer : FormatParameters) (it : IsH264Answer offered answer) → MaySend answer offered it.ours it.theirs
-sends_back offered answer it = record {
+pub sends_back : (by : AnswerRules) (offered answer : FormatParameters) (it : IsH264Answer by offered answer) → MaySend answer offered it.ours it.theirs
+sends_back by offered answer it = record {
   profile = it.profile;
   mode = it.mode;
   level = use_within answer offered it.ours it.theirs;

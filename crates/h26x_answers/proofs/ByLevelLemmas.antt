@@ -199,7 +199,7 @@ row_of_answer rules offered own found k r long of_offered of_own within is =
 
 configuration_kept : (r : Role) (found : Terms) (o u : Option (List ℕ)) → is_configuration r ≡ true → answered_value r found o u ≡ o
 configuration_kept role.Configuration found o u is = refl
-configuration_kept role.Inferred found o u is = refl
+configuration_kept role.Compared found o u is = refl
 configuration_kept role.Level found o u is = cc is
 configuration_kept role.HighestLevel found o u is = cc is
 configuration_kept role.Asymmetry found o u is = cc is
@@ -211,7 +211,7 @@ configuration_kept role.OperationPoint found o u is = cc is
 
 choice_dropped : (r : Role) (found : Terms) (o u : Option (List ℕ)) → is_choice r ≡ true → answered_value r found o u ≡ None
 choice_dropped role.Configuration found o u is = cc is
-choice_dropped role.Inferred found o u is = cc is
+choice_dropped role.Compared found o u is = cc is
 choice_dropped role.Level found o u is = cc is
 choice_dropped role.HighestLevel found o u is = cc is
 choice_dropped role.Asymmetry found o u is = cc is

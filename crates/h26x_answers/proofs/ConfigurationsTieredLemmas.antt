@@ -1,5 +1,5 @@
 -- Answers of H.265 and of H.266 by what two ends say.
-use Rattle.std.proofs.Common.{◌≡◌, ℕ, ◌+◌, ◌*◌, ◌^◌, ◌-◌, ◌<◌, ◌≤◌, true, false, not, ◌&&◌, cond, List, [], ◌∷◌, length, get_or, map, Option, Some, None, Result, Ok, Err, ◌⊎◌, inl, inr, refl, sym, ap, subst, ◌∙◌, arith, Bool}
+use Rattle.std.proofs.Common.{◌≡◌, ℕ, ◌+◌, ◌*◌, ◌^◌, ◌-◌, ◌<◌, ◌≤◌, true, false, not, cond, List, [], ◌∷◌, length, map, Option, Some, None, Result, Ok, Err, ◌⊎◌, inl, inr, refl, sym, ap, subst, ◌∙◌, arith, Bool}
 use Rattle.std.specs.Prelude.{◌||◌, nat_le, nat_eq, min, codes}
 use Rattle.std.specs.Char.{to_ascii_lowercase}
 use Rattle.std.specs.Option.{option_map, option_and_then, option_or}
@@ -10,29 +10,30 @@ use Rattle.hex.specs.Hex.{decode_sized}
 use Rattle.hex.specs.declared.error.FromHexError.{FromHexError}
 use Rattle.h26x_fmtp.specs.declared.kind.Kind.TheVariants.{Units, Text}
 use Rattle.h26x_fmtp.specs.UnitTypes.{h266_vps}
+use Rattle.h26x_answers.specs.declared.answer.AnswerRules.{AnswerRules}
+use Rattle.h26x_answers.specs.declared.answer.AnswerRules.TheVariants.{Rfc, Webrtc}
 use Rattle.h26x_answers.specs.declared.answer.Role.{Role}
 use Rattle.h26x_answers.specs.declared.answer.Role.TheVariants as role
-use Rattle.h26x_answers.specs.declared.answer.by_level.Levels.{Levels}
 use Rattle.h26x_sdp.specs.declared.h265.H265Parameter.TheVariants as p
 use Rattle.h26x_sdp.specs.declared.h266.H266Parameter.TheVariants as q
 use Rattle.h26x_fmtp.specs.Kinds.{number_of}
-use Rattle.h26x_fmtp.specs.Tables.{ParameterRow, row_at}
+use Rattle.h26x_fmtp.specs.Tables.{row_at}
 use Rattle.h26x_fmtp.specs.Parameters.{AreParameters}
 use Rattle.h26x_fmtp.specs.Reading.{FormatParameters, value_at, value_or_default, number_at, number_or_default}
-use Rattle.h26x_answers.specs.Answers.{Terms, Rules, only_if, same_number, same_if_given, answered, answered_value, is_symmetric_at, are_symmetric, common_terms, answer_by}
+use Rattle.h26x_answers.specs.Answers.{Terms, Rules, only_if, same_number, same_if_given, answered_value, is_symmetric_at, are_symmetric, common_terms, answer_by}
 use Rattle.h26x_answers.specs.AnswersByLevel.{levels_by, levels_of, can_hold, terms_of_levels, terms_if_known, terms_by_level}
 use Rattle.h26x_answers.specs.AnswersH265 as h265
 use Rattle.h26x_answers.specs.AnswersH266 as h266
 use Rattle.h26x_answers.specs.AllowedByLevel.{role_at}
-use Rattle.h26x_answers.specs.LevelsSaid.{IsWithin, IsReceived}
+use Rattle.h26x_answers.specs.LevelsSaid.{IsWithin}
 use Rattle.h26x_answers.specs.ConfigurationsH265 as c265
 use Rattle.h26x_answers.specs.ConfigurationsH266 as c266
 use Rattle.h26x_fmtp.proofs.PartLemmas.{by_test}
-use Rattle.h26x_fmtp.proofs.TestLemmas.{both_true, not_true}
-use Rattle.h26x_answers.proofs.AnswersLemmas.{answer_parts, answered_at}
+use Rattle.h26x_fmtp.proofs.TestLemmas.{both_true}
+use Rattle.h26x_answers.proofs.AnswersLemmas.{answer_parts}
 use Rattle.h26x_answers.proofs.AnswersH264Lemmas.{long_values}
 use Rattle.h26x_answers.proofs.SymmetricLemmas.{symmetric_row, agree_symmetric, number_parts, number_same_of, same_numbers, numbers_same, same_digits, digits_same, same_modes, modes_same}
-use Rattle.h26x_answers.proofs.ByLevelLemmas.{Describes, AgreedByLevel, agreed_by_level, row_of_answer, answer_levels, lower_of}
+use Rattle.h26x_answers.proofs.ByLevelLemmas.{agreed_by_level, row_of_answer, answer_levels, lower_of}
 use Rattle.h26x_answers.proofs.LevelsSaidLemmas.{within_level, level_within, received_level, level_received, levels_there, in_order, order_in, levels_said}
 use Rattle.h26x_answers.proofs.TieredLemmas.{h265_describes, h266_describes, common_parts, h265_parts, h266_parts}
 
@@ -95,87 +96,139 @@ flags_of it profile flags of_profile said = elim said [
 
 -- ---- H.265: what two ends have in common
 
+-- the same of what says more of a profile than its number
+abbrev SameFurther : AnswerRules → FormatParameters → FormatParameters → Type 0
+SameFurther Rfc x y = (option_map (map to_ascii_lowercase) (c265.text x p.InteropConstraints) ≡ option_map (map to_ascii_lowercase) (c265.text y p.InteropConstraints))
+    × (h265.compatible_profiles x ≡ h265.compatible_profiles y)
+SameFurther Webrtc x y = Unit {0}
+
+back_further : (which : AnswerRules) (x y : FormatParameters) → SameFurther which x y → SameFurther which y x
+back_further Rfc x y same = (sym same.0, sym same.1)
+back_further Webrtc x y same = tt
+
+further_through : (which : AnswerRules) (x y : FormatParameters) (c : c265.Configuration) → c265.number x p.ProfileId ≡ Some c.profile → c265.number y p.ProfileId ≡ Some c.profile
+    → SameFurther which x y → c265.IsAsConstrained which x c → c265.IsAsConstrained which y c
+further_through Rfc x y c of_x of_y same it = record {
+  constraints = sym same.0 ∙ it.constraints;
+  compatible = flags_parts y c.profile c.compatible (value_at y.values 5) of_y refl (sym same.1 ∙ flags_of x c.profile c.compatible of_x it.compatible);
+}
+further_through Webrtc x y c of_x of_y same it = tt
+
+further_kept : (which : AnswerRules) (x y : FormatParameters) → value_at x.values 1 ≡ value_at y.values 1 → value_at x.values 4 ≡ value_at y.values 4 → value_at x.values 5 ≡ value_at y.values 5 → SameFurther which x y
+further_kept Rfc x y profile constraints indicator =
+    let rows = (h265.rules Rfc).rows in (
+      ap (λ v. option_map (map to_ascii_lowercase) (option_or v (row_at rows 4).default)) constraints,
+      ap (λ v. h265.flags_or_profile (option_and_then (number_of (row_at rows 1).kind) (option_or v (row_at rows 1).default)) (value_at x.values 5)) profile
+          ∙ ap (h265.flags_or_profile (number_or_default rows y 1)) indicator,
+    )
+further_kept Webrtc x y profile constraints indicator = tt
+
 -- two ends that are of one configuration, whatever their levels
-record Same265 (x y : FormatParameters) : Type 0 where
+record Same265 (which : AnswerRules) (x y : FormatParameters) : Type 0 where
   pub profile_space : c265.number x p.ProfileSpace ≡ c265.number y p.ProfileSpace
   pub profile : c265.number x p.ProfileId ≡ c265.number y p.ProfileId
   pub tier : c265.number x p.TierFlag ≡ c265.number y p.TierFlag
-  pub constraints : option_map (map to_ascii_lowercase) (c265.text x p.InteropConstraints) ≡ option_map (map to_ascii_lowercase) (c265.text y p.InteropConstraints)
-  pub compatible : h265.compatible_profiles x ≡ h265.compatible_profiles y
+  pub further : SameFurther which x y
   pub mode : option_map (map to_ascii_lowercase) (c265.text x p.TxMode) ≡ option_map (map to_ascii_lowercase) (c265.text y p.TxMode)
 
-back_265 : (x y : FormatParameters) → Same265 x y → Same265 y x
-back_265 x y same = record {
+back_265 : (which : AnswerRules) (x y : FormatParameters) → Same265 which x y → Same265 which y x
+back_265 which x y same = record {
   profile_space = sym same.profile_space;
   profile = sym same.profile;
   tier = sym same.tier;
-  constraints = sym same.constraints;
-  compatible = sym same.compatible;
+  further = back_further which x y same.further;
   mode = sym same.mode;
 }
 
-end_265 : (x y : FormatParameters) (c : c265.Configuration) → Same265 x y → c265.IsOfEnd x c → c265.IsOfEnd y c
-end_265 x y c same of =
-    let flags = flags_of x c.profile c.compatible of.profile of.compatible in
+end_265 : (which : AnswerRules) (x y : FormatParameters) (c : c265.Configuration) → Same265 which x y → c265.IsOfEnd which x c → c265.IsOfEnd which y c
+end_265 which x y c same of =
     let profile = sym same.profile ∙ of.profile in
     record {
       profile_space = sym same.profile_space ∙ of.profile_space;
       profile = profile;
       tier = sym same.tier ∙ of.tier;
-      constraints = sym same.constraints ∙ of.constraints;
-      compatible = flags_parts y c.profile c.compatible (value_at y.values 5) profile refl (sym same.compatible ∙ flags);
+      constrained = further_through which x y c of.profile profile same.further of.constrained;
       mode = sym same.mode ∙ of.mode;
     }
 
+-- what two ends that agree say more of a profile
+record Further265 (which : AnswerRules) (offered own : FormatParameters) (profile : ℕ) : Type 0 where
+  pub constraints : List ℕ
+  pub compatible : ℕ
+  pub theirs : (c : c265.Configuration) → c.profile ≡ profile → c.constraints ≡ constraints → c.compatible ≡ compatible → c265.IsAsConstrained which offered c
+  pub same : SameFurther which offered own
+
+further_265 : (which : AnswerRules) (offered own : FormatParameters) (profile : ℕ) → c265.number offered p.ProfileId ≡ Some profile → h265.agree which offered own ≡ true → Further265 which offered own profile
+further_265 Rfc offered own profile of h =
+    let both = and_parts (h265.same_constraints offered own) (same_number (h265.compatible_profiles offered) (h265.compatible_profiles own)) h in
+    let (digits, digits_o, digits_u) = same_digits 6 (codes "B00000000000") (value_at offered.values 4) (value_at own.values 4) both.0 in
+    let (bits, bits_o, bits_u) = number_parts (h265.compatible_profiles offered) (h265.compatible_profiles own) both.1 in
+    record {
+      constraints = digits;
+      compatible = bits;
+      theirs = λ c e1 e2 e3.
+          let of_c : c265.number offered p.ProfileId ≡ Some c.profile = of ∙ ap Some (sym e1) in
+          record {
+            constraints = digits_o ∙ ap Some (sym e2);
+            compatible = flags_parts offered c.profile c.compatible (value_at offered.values 5) of_c refl (bits_o ∙ ap Some (sym e3));
+          };
+      same = (digits_o ∙ sym digits_u, bits_o ∙ sym bits_u);
+    }
+further_265 Webrtc offered own profile of h = record { constraints = []; compatible = 0; theirs = λ c e1 e2 e3. tt; same = tt }
+
+-- whose configuration is one agree
+agree_265 : (which : AnswerRules) (offered own : FormatParameters) (c : c265.Configuration) → c265.IsOfEnd which offered c → c265.IsOfEnd which own c → h265.agree which offered own ≡ true
+agree_265 Webrtc offered own c t u = refl
+agree_265 Rfc offered own c t u = both_true (h265.same_constraints offered own) (same_number (h265.compatible_profiles offered) (h265.compatible_profiles own))
+    (digits_same 6 (codes "B00000000000") (value_at offered.values 4) (value_at own.values 4) c.constraints t.constrained.constraints u.constrained.constraints)
+    (number_same_of (h265.compatible_profiles offered) (h265.compatible_profiles own) c.compatible
+    (flags_of offered c.profile c.compatible t.profile t.constrained.compatible) (flags_of own c.profile c.compatible u.profile u.constrained.compatible))
+
 -- a configuration of an offer at a level
-record Offer265 (offered own : FormatParameters) : Type 0 where
+record Offer265 (which : AnswerRules) (offered own : FormatParameters) : Type 0 where
   pub of : ℕ → c265.Configuration
   pub level : (n : ℕ) → (of n).level ≡ n
-  pub theirs : (n : ℕ) → c265.IsOfEnd offered (of n)
-  pub same : Same265 offered own
+  pub theirs : (n : ℕ) → c265.IsOfEnd which offered (of n)
+  pub same : Same265 which offered own
 
-offer_265 : (offered own : FormatParameters) → AreParameters h265.rules.rows offered → AreParameters h265.rules.rows own → are_symmetric h265.rules.roles h265.rules.rows offered.values own.values ≡ true
-    → same_number (h265.compatible_profiles offered) (h265.compatible_profiles own) ≡ true → Offer265 offered own
-offer_265 offered own of_offered of_own h flags =
+offer_265 : (which : AnswerRules) (offered own : FormatParameters) → AreParameters (h265.rules which).rows offered → AreParameters (h265.rules which).rows own → are_symmetric (h265.rules which).roles (h265.rules which).rows offered.values own.values ≡ true
+    → h265.agree which offered own ≡ true → Offer265 which offered own
+offer_265 which offered own of_offered of_own h flags =
     let w0 : 0 < 30 = omega arith in
     let w1 : 1 < 30 = omega arith in
     let w2 : 2 < 30 = omega arith in
-    let w4 : 4 < 30 = omega arith in
     let w9 : 9 < 30 = omega arith in
-    let (space, space_o, space_u) = same_numbers 0 3 (codes "0") (value_at offered.values 0) (value_at own.values 0) (row_same h265.rules offered own 0 refl of_offered of_own h w0 refl) in
-    let (profile, profile_o, profile_u) = same_numbers 0 31 (codes "1") (value_at offered.values 1) (value_at own.values 1) (row_same h265.rules offered own 1 refl of_offered of_own h w1 refl) in
-    let (tier, tier_o, tier_u) = same_numbers 0 1 (codes "0") (value_at offered.values 2) (value_at own.values 2) (row_same h265.rules offered own 2 refl of_offered of_own h w2 refl) in
-    let (digits, digits_o, digits_u) = same_digits 6 (codes "B00000000000") (value_at offered.values 4) (value_at own.values 4) (row_same h265.rules offered own 4 refl of_offered of_own h w4 refl) in
-    let (mode, mode_o, mode_u) = same_modes (codes "SRST") (value_at offered.values 9) (value_at own.values 9) (row_same h265.rules offered own 9 refl of_offered of_own h w9 refl) in
-    let (bits, bits_o, bits_u) = number_parts (h265.compatible_profiles offered) (h265.compatible_profiles own) flags in
+    let (space, space_o, space_u) = same_numbers 0 3 (codes "0") (value_at offered.values 0) (value_at own.values 0) (row_same (h265.rules which) offered own 0 refl of_offered of_own h w0 refl) in
+    let (profile, profile_o, profile_u) = same_numbers 0 31 (codes "1") (value_at offered.values 1) (value_at own.values 1) (row_same (h265.rules which) offered own 1 refl of_offered of_own h w1 refl) in
+    let (tier, tier_o, tier_u) = same_numbers 0 1 (codes "0") (value_at offered.values 2) (value_at own.values 2) (row_same (h265.rules which) offered own 2 refl of_offered of_own h w2 refl) in
+    let (mode, mode_o, mode_u) = same_modes (codes "SRST") (value_at offered.values 9) (value_at own.values 9) (row_same (h265.rules which) offered own 9 refl of_offered of_own h w9 refl) in
+    let further = further_265 which offered own profile profile_o flags in
     record {
-      of = λ n. record { profile_space = space; profile = profile; tier = tier; level = n; constraints = digits; compatible = bits; mode = mode };
+      of = λ n. record { profile_space = space; profile = profile; tier = tier; level = n; constraints = further.constraints; compatible = further.compatible; mode = mode };
       level = λ n. refl;
       theirs = λ n. record {
         profile_space = space_o;
         profile = profile_o;
         tier = tier_o;
-        constraints = digits_o;
-        compatible = flags_parts offered profile bits (value_at offered.values 5) profile_o refl bits_o;
+        constrained = further.theirs (record { profile_space = space; profile = profile; tier = tier; level = n; constraints = further.constraints; compatible = further.compatible; mode = mode }) refl refl refl;
         mode = mode_o;
       };
       same = record {
         profile_space = space_o ∙ sym space_u;
         profile = profile_o ∙ sym profile_u;
         tier = tier_o ∙ sym tier_u;
-        constraints = digits_o ∙ sym digits_u;
-        compatible = bits_o ∙ sym bits_u;
+        further = further.same;
         mode = mode_o ∙ sym mode_u;
       };
     }
 
 -- where there are terms there is a configuration in common
-pub h265_common : (offered own : FormatParameters) → AreParameters h265.rules.rows offered → AreParameters h265.rules.rows own → (found : Terms) → common_terms h265.rules offered own ≡ Some found → c265.IsCommon offered own
-h265_common offered own of_offered of_own found h =
-    let parts = common_parts h265.rules offered own found h in
-    let flags = h265_parts offered own found parts.1 in
-    let agreed = agreed_by_level h265.rules.rows h265.by offered own found flags.1 in
-    let both = offer_265 offered own of_offered of_own parts.0 flags.0 in
+pub h265_common : (which : AnswerRules) (offered own : FormatParameters) → AreParameters (h265.rules which).rows offered → AreParameters (h265.rules which).rows own → (found : Terms) → common_terms (h265.rules which) offered own ≡ Some found → c265.IsCommon which offered own
+h265_common which offered own of_offered of_own found h =
+    let parts = common_parts (h265.rules which) offered own found h in
+    let flags = h265_parts which offered own found parts.1 in
+    let agreed = agreed_by_level (h265.rules which).rows h265.by offered own found flags.1 in
+    let both = offer_265 which offered own of_offered of_own parts.0 flags.0 in
     let a = agreed.a.level in
     let b = agreed.b.level in
     let least = min a b in
@@ -185,47 +238,45 @@ h265_common offered own of_offered of_own found h =
       configuration = both.of least;
       theirs = record {
         one = both.theirs least;
-        level = subst (λ n. IsWithin h265.rules.rows offered 3 n) (sym (both.level least)) (level_within h265.rules.rows h265.by offered agreed.a least agreed.offer_says under_a);
+        level = subst (λ n. IsWithin (h265.rules which).rows offered 3 n) (sym (both.level least)) (level_within (h265.rules which).rows h265.by offered agreed.a least agreed.offer_says under_a);
       };
       ours = record {
-        one = end_265 offered own (both.of least) both.same (both.theirs least);
-        level = subst (λ n. IsWithin h265.rules.rows own 3 n) (sym (both.level least)) (level_within h265.rules.rows h265.by own agreed.b least agreed.own_says under_b);
+        one = end_265 which offered own (both.of least) both.same (both.theirs least);
+        level = subst (λ n. IsWithin (h265.rules which).rows own 3 n) (sym (both.level least)) (level_within (h265.rules which).rows h265.by own agreed.b least agreed.own_says under_b);
       };
-      forth = in_order h265.rules.rows h265.by offered own agreed.forth;
-      back = in_order h265.rules.rows h265.by own offered agreed.back;
+      forth = in_order (h265.rules which).rows h265.by offered own agreed.forth;
+      back = in_order (h265.rules which).rows h265.by own offered agreed.back;
     }
 
 -- and where there is one in common there are terms
-pub h265_terms : (offered own : FormatParameters) → AreParameters h265.rules.rows offered → AreParameters h265.rules.rows own → c265.IsCommon offered own → (found : Terms) × (common_terms h265.rules offered own ≡ Some found)
-h265_terms offered own of_offered of_own it =
+pub h265_terms : (which : AnswerRules) (offered own : FormatParameters) → AreParameters (h265.rules which).rows offered → AreParameters (h265.rules which).rows own → c265.IsCommon which offered own → (found : Terms) × (common_terms (h265.rules which) offered own ≡ Some found)
+h265_terms which offered own of_offered of_own it =
     let c = it.configuration in
     let t = it.theirs.one in
     let u = it.ours.one in
-    let lo : length offered.values ≡ length h265.rules.roles = long_values h265.rules.rows offered.values of_offered.values in
-    let lu : length own.values ≡ length h265.rules.roles = long_values h265.rules.rows own.values of_own.values in
+    let lo : length offered.values ≡ length (h265.rules which).roles = long_values (h265.rules which).rows offered.values of_offered.values in
+    let lu : length own.values ≡ length (h265.rules which).roles = long_values (h265.rules which).rows own.values of_own.values in
     let space = numbers_same 0 3 (codes "0") (value_at offered.values 0) (value_at own.values 0) c.profile_space t.profile_space u.profile_space in
     let profile = numbers_same 0 31 (codes "1") (value_at offered.values 1) (value_at own.values 1) c.profile t.profile u.profile in
     let tier = numbers_same 0 1 (codes "0") (value_at offered.values 2) (value_at own.values 2) c.tier t.tier u.tier in
-    let digits = digits_same 6 (codes "B00000000000") (value_at offered.values 4) (value_at own.values 4) c.constraints t.constraints u.constraints in
     let mode = modes_same (codes "SRST") (value_at offered.values 9) (value_at own.values 9) c.mode t.mode u.mode in
-    let symmetric : are_symmetric h265.rules.roles h265.rules.rows offered.values own.values ≡ true =
-    agree_symmetric h265.rules.rows offered.values own.values h265.rules.roles 0 refl lo lu
-    (space, (profile, (tier, (tt, (digits, (tt, (tt, (tt, (tt, (mode, (tt, (tt, (tt, (tt, (tt, (tt, (tt, (tt, (tt, (tt, (tt, (tt, (tt, (tt, (tt, (tt, (tt, (tt, (tt, (tt, tt)))))))))))))))))))))))))))))) in
-    let flags = number_same_of (h265.compatible_profiles offered) (h265.compatible_profiles own) c.compatible
-    (flags_of offered c.profile c.compatible t.profile t.compatible) (flags_of own c.profile c.compatible u.profile u.compatible) in
-    let a = levels_by it.theirs.level.most (number_at h265.rules.rows offered 8) in
-    let b = levels_by it.ours.level.most (number_at h265.rules.rows own 8) in
-    let of_a = levels_there h265.rules.rows h265.by offered it.theirs.level.most it.theirs.level.said in
-    let of_b = levels_there h265.rules.rows h265.by own it.ours.level.most it.ours.level.said in
-    let forth = order_in h265.rules.rows h265.by offered own it.forth in
-    let back = order_in h265.rules.rows h265.by own offered it.back in
-    let at = terms_of_levels h265.rules.rows h265.by offered own a b in (
+    let symmetric : are_symmetric (h265.rules which).roles (h265.rules which).rows offered.values own.values ≡ true =
+    agree_symmetric (h265.rules which).rows offered.values own.values (h265.rules which).roles 0 refl lo lu
+    (space, (profile, (tier, (tt, (tt, (tt, (tt, (tt, (tt, (mode, (tt, (tt, (tt, (tt, (tt, (tt, (tt, (tt, (tt, (tt, (tt, (tt, (tt, (tt, (tt, (tt, (tt, (tt, (tt, (tt, tt)))))))))))))))))))))))))))))) in
+    let flags = agree_265 which offered own c t u in
+    let a = levels_by it.theirs.level.most (number_at (h265.rules which).rows offered 8) in
+    let b = levels_by it.ours.level.most (number_at (h265.rules which).rows own 8) in
+    let of_a = levels_there (h265.rules which).rows h265.by offered it.theirs.level.most it.theirs.level.said in
+    let of_b = levels_there (h265.rules which).rows h265.by own it.ours.level.most it.ours.level.said in
+    let forth = order_in (h265.rules which).rows h265.by offered own it.forth in
+    let back = order_in (h265.rules which).rows h265.by own offered it.back in
+    let at = terms_of_levels (h265.rules which).rows h265.by offered own a b in (
       at,
-      ap (λ t. cond t (h265.terms offered own) None) symmetric
-          ∙ ap (λ t. cond t (terms_by_level h265.rules.rows h265.by offered own) None) flags
-          ∙ ap (λ x. terms_if_known h265.rules.rows h265.by offered own x (levels_of h265.rules.rows h265.by own)) of_a
-          ∙ ap (λ y. terms_if_known h265.rules.rows h265.by offered own (Some a) y) of_b
-          ∙ ap (λ t. cond t (Some at) None) (both_true (can_hold h265.rules.rows h265.by offered own) (can_hold h265.rules.rows h265.by own offered) forth back),
+      ap (λ t. cond t (h265.terms which offered own) None) symmetric
+          ∙ ap (λ t. cond t (terms_by_level (h265.rules which).rows h265.by offered own) None) flags
+          ∙ ap (λ x. terms_if_known (h265.rules which).rows h265.by offered own x (levels_of (h265.rules which).rows h265.by own)) of_a
+          ∙ ap (λ y. terms_if_known (h265.rules which).rows h265.by offered own (Some a) y) of_b
+          ∙ ap (λ t. cond t (Some at) None) (both_true (can_hold (h265.rules which).rows h265.by offered own) (can_hold (h265.rules which).rows h265.by own offered) forth back),
     )
 
 -- ---- what an answer says
@@ -235,68 +286,67 @@ none_or_ours true value own h = inr h
 none_or_ours false value own h = inl h
 
 -- each answer is by what was offered and by what we can do
-pub h265_ours : (offered own answer : FormatParameters) → AreParameters h265.rules.rows offered → AreParameters h265.rules.rows own → answer_by h265.rules offered own ≡ Some answer → c265.IsOurAnswer offered own answer
-h265_ours offered own answer of_offered of_own h =
-    let (found, common, is) = answer_parts h265.rules offered own answer (common_terms h265.rules offered own) h in
-    let parts = common_parts h265.rules offered own found common in
-    let flags = h265_parts offered own found parts.1 in
-    let agreed = agreed_by_level h265.rules.rows h265.by offered own found flags.1 in
+pub h265_ours : (which : AnswerRules) (offered own answer : FormatParameters) → AreParameters (h265.rules which).rows offered → AreParameters (h265.rules which).rows own → answer_by (h265.rules which) offered own ≡ Some answer → c265.IsOurAnswer which offered own answer
+h265_ours which offered own answer of_offered of_own h =
+    let (found, common, is) = answer_parts (h265.rules which) offered own answer (common_terms (h265.rules which) offered own) h in
+    let parts = common_parts (h265.rules which) offered own found common in
+    let flags = h265_parts which offered own found parts.1 in
+    let agreed = agreed_by_level (h265.rules which).rows h265.by offered own found flags.1 in
     let a = agreed.a in
     let b = agreed.b in
-    let both = (offer_265 offered own of_offered of_own parts.0 flags.0).same in
-    let said : levels_of h265.rules.rows h265.by answer ≡ Some (lower_of a b) =
-    ap (levels_of h265.rules.rows h265.by) is ∙ answer_levels h265.rules h265.by h265_describes offered own found of_offered of_own agreed in
-    let row : (k : ℕ) (r : Role) → k < length h265.rules.roles → role_at h265.rules k ≡ r → value_at answer.values k ≡ answered_value r found (value_at offered.values k) (value_at own.values k) =
-    λ k r within of. ap (λ (it : FormatParameters). value_at it.values k) is ∙ row_of_answer h265.rules offered own found k r refl of_offered of_own within of in
+    let both = (offer_265 which offered own of_offered of_own parts.0 flags.0).same in
+    let said : levels_of (h265.rules which).rows h265.by answer ≡ Some (lower_of a b) =
+    ap (levels_of (h265.rules which).rows h265.by) is ∙ answer_levels (h265.rules which) h265.by (h265_describes which) offered own found of_offered of_own agreed in
+    let row : (k : ℕ) (r : Role) → k < length (h265.rules which).roles → role_at (h265.rules which) k ≡ r → value_at answer.values k ≡ answered_value r found (value_at offered.values k) (value_at own.values k) =
+    λ k r within of. ap (λ (it : FormatParameters). value_at it.values k) is ∙ row_of_answer (h265.rules which) offered own found k r refl of_offered of_own within of in
     let r0 = row 0 role.Configuration (omega arith) refl in
     let r1 = row 1 role.Configuration (omega arith) refl in
     let r2 = row 2 role.Configuration (omega arith) refl in
-    let r4 = row 4 role.Configuration (omega arith) refl in
-    let r5 = row 5 role.Inferred (omega arith) refl in
+    let r4 = row 4 role.Compared (omega arith) refl in
+    let r5 = row 5 role.Compared (omega arith) refl in
     let r9 = row 9 role.Configuration (omega arith) refl in
-    let number : (k : ℕ) → value_at answer.values k ≡ value_at offered.values k → number_or_default h265.rules.rows answer k ≡ number_or_default h265.rules.rows offered k =
-    λ k e. ap (λ v. option_and_then (number_of (row_at h265.rules.rows k).kind) (option_or v (row_at h265.rules.rows k).default)) e in
-    let text : (k : ℕ) → value_at answer.values k ≡ value_at offered.values k → option_map (map to_ascii_lowercase) (value_or_default h265.rules.rows answer k) ≡ option_map (map to_ascii_lowercase) (value_or_default h265.rules.rows offered k) =
-    λ k e. ap (λ v. option_map (map to_ascii_lowercase) (option_or v (row_at h265.rules.rows k).default)) e in
-    let theirs : Same265 answer offered = record {
+    let number : (k : ℕ) → value_at answer.values k ≡ value_at offered.values k → number_or_default (h265.rules which).rows answer k ≡ number_or_default (h265.rules which).rows offered k =
+    λ k e. ap (λ v. option_and_then (number_of (row_at (h265.rules which).rows k).kind) (option_or v (row_at (h265.rules which).rows k).default)) e in
+    let text : (k : ℕ) → value_at answer.values k ≡ value_at offered.values k → option_map (map to_ascii_lowercase) (value_or_default (h265.rules which).rows answer k) ≡ option_map (map to_ascii_lowercase) (value_or_default (h265.rules which).rows offered k) =
+    λ k e. ap (λ v. option_map (map to_ascii_lowercase) (option_or v (row_at (h265.rules which).rows k).default)) e in
+    let theirs : Same265 which answer offered = record {
       profile_space = number 0 r0;
       profile = number 1 r1;
       tier = number 2 r2;
-      constraints = text 4 r4;
-      compatible = ap (λ n. h265.flags_or_profile n (value_at answer.values 5)) (number 1 r1) ∙ ap (h265.flags_or_profile (number_or_default h265.rules.rows offered 1)) r5;
+      further = further_kept which answer offered r1 r4 r5;
       mode = text 9 r9;
     } in
-    let to_offered : (c : c265.Configuration) → c265.IsOfEnd answer c → c265.IsOfEnd offered c = λ c one. end_265 answer offered c theirs one in
-    let to_own : (c : c265.Configuration) → c265.IsOfEnd answer c → c265.IsOfEnd own c = λ c one. end_265 offered own c both (to_offered c one) in
-    let of_answer : (c : c265.Configuration) → c265.IsOfEnd offered c → c265.IsOfEnd answer c = λ c one. end_265 offered answer c (back_265 answer offered theirs) one in
+    let to_offered : (c : c265.Configuration) → c265.IsOfEnd which answer c → c265.IsOfEnd which offered c = λ c one. end_265 which answer offered c theirs one in
+    let to_own : (c : c265.Configuration) → c265.IsOfEnd which answer c → c265.IsOfEnd which own c = λ c one. end_265 which offered own c both (to_offered c one) in
+    let of_answer : (c : c265.Configuration) → c265.IsOfEnd which offered c → c265.IsOfEnd which answer c = λ c one. end_265 which offered answer c (back_265 which answer offered theirs) one in
     record {
       ours = λ c it. record {
         one = to_own c it.one;
-        level = level_within h265.rules.rows h265.by own b c.level agreed.own_says
-            (let under = within_level h265.rules.rows h265.by answer (lower_of a b) c.level said it.level in omega (arith, under));
+        level = level_within (h265.rules which).rows h265.by own b c.level agreed.own_says
+            (let under = within_level (h265.rules which).rows h265.by answer (lower_of a b) c.level said it.level in omega (arith, under));
       };
       theirs = λ c it. record {
         one = to_offered c it.one;
-        level = level_within h265.rules.rows h265.by offered a c.level agreed.offer_says
-            (let under = within_level h265.rules.rows h265.by answer (lower_of a b) c.level said it.level in omega (arith, under));
+        level = level_within (h265.rules which).rows h265.by offered a c.level agreed.offer_says
+            (let under = within_level (h265.rules which).rows h265.by answer (lower_of a b) c.level said it.level in omega (arith, under));
       };
       greatest = λ c first second. record {
         one = of_answer c first.one;
-        level = level_within h265.rules.rows h265.by answer (lower_of a b) c.level said
-            (let under_a = within_level h265.rules.rows h265.by offered a c.level agreed.offer_says first.level in
-            let under_b = within_level h265.rules.rows h265.by own b c.level agreed.own_says second.level in
+        level = level_within (h265.rules which).rows h265.by answer (lower_of a b) c.level said
+            (let under_a = within_level (h265.rules which).rows h265.by offered a c.level agreed.offer_says first.level in
+            let under_b = within_level (h265.rules which).rows h265.by own b c.level agreed.own_says second.level in
             omega (arith, under_a, under_b));
       };
       received = λ c it.
-          let under = received_level h265.rules.rows h265.by answer (lower_of a b) c.level said it.level in (
-            record { one = to_offered c it.one; level = level_received h265.rules.rows h265.by offered a c.level agreed.offer_says (omega (arith, under)) },
-            record { one = to_own c it.one; level = level_received h265.rules.rows h265.by own b c.level agreed.own_says (omega (arith, under)) },
+          let under = received_level (h265.rules which).rows h265.by answer (lower_of a b) c.level said it.level in (
+            record { one = to_offered c it.one; level = level_received (h265.rules which).rows h265.by offered a c.level agreed.offer_says (omega (arith, under)) },
+            record { one = to_own c it.one; level = level_received (h265.rules which).rows h265.by own b c.level agreed.own_says (omega (arith, under)) },
           );
       greatest_received = λ c first second. record {
         one = of_answer c first.one;
-        level = level_received h265.rules.rows h265.by answer (lower_of a b) c.level said
-            (let under_a = received_level h265.rules.rows h265.by offered a c.level agreed.offer_says first.level in
-            let under_b = received_level h265.rules.rows h265.by own b c.level agreed.own_says second.level in
+        level = level_received (h265.rules which).rows h265.by answer (lower_of a b) c.level said
+            (let under_a = received_level (h265.rules which).rows h265.by offered a c.level agreed.offer_says first.level in
+            let under_b = received_level (h265.rules which).rows h265.by own b c.level agreed.own_says second.level in
             omega (arith, under_a, under_b));
       };
       no_choice = row 7 role.OperationPoint (omega arith) refl;

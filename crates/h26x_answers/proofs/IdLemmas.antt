@@ -7,8 +7,10 @@ use Rattle.hex.specs.declared.error.FromHexError.{FromHexError}
 use Rattle.hex.proofs.HexLemmas.{decode_of-ok, decode_sized-twice, decode_sized-ok, decode_sized-encode_lower}
 use Rattle.h26x_profile.specs.Pattern.{bit_of}
 use Rattle.h26x_profile.specs.H264.{idc_of, profile_of}
+use Rattle.h26x_answers.specs.declared.answer.AnswerRules.{AnswerRules}
+use Rattle.h26x_answers.specs.declared.answer.AnswerRules.TheVariants.{Rfc, Webrtc}
 use Rattle.h26x_answers.specs.declared.answer.h264.ProfileLevelId.{ProfileLevelId}
-use Rattle.h26x_answers.specs.AnswersH264.{three_bytes, profile_level_id_of, profile_level_id_text, has_level_flag, profile_flags, is_1b, level_rank, sub_profile, same_sub_profile, same_profile, at_level_of}
+use Rattle.h26x_answers.specs.AnswersH264.{three_bytes, profile_level_id_of, profile_level_id_text, has_level_flag, profile_flags, is_1b, level_rank, sub_profile, same_sub_profile, same_profile, constrained_sub_profile, takes_profile, at_level_of}
 use Rattle.h26x_answers.specs.AllowedH264.{IsSameProfile}
 use Rattle.h26x_fmtp.proofs.PartLemmas.{by_test}
 
@@ -106,9 +108,21 @@ moved_bytes a b of_a of_b (suc (suc zero)) = level_fits (is_1b b) (has_level_fla
 moved_bytes a b of_a of_b (suc (suc (suc i))) = omega arith
 
 -- whose profile is the same has the same profile as another
-pub profile_through : (a x b : ProfileLevelId) → IsSameProfile x a → same_profile x b ≡ same_profile a b
-profile_through a x b same =
+same_through : (a x b : ProfileLevelId) → IsSameProfile x a → same_profile x b ≡ same_profile a b
+same_through a x b same =
     ap (λ idc. ((idc == b.profile_idc) && (profile_flags x == profile_flags b))
     || same_sub_profile (option_and_then (λ i. profile_of i (profile_flags x)) (idc_of idc)) (sub_profile b)) same.idc
     ∙ ap (λ flags. ((a.profile_idc == b.profile_idc) && (flags == profile_flags b))
     || same_sub_profile (option_and_then (λ i. profile_of i flags) (idc_of a.profile_idc)) (sub_profile b)) same.flags
+
+sub_through : (a x : ProfileLevelId) → IsSameProfile x a → sub_profile x ≡ sub_profile a
+sub_through a x same =
+    ap (λ idc. option_and_then (λ i. profile_of i (profile_flags x)) (idc_of idc)) same.idc
+    ∙ ap (λ flags. option_and_then (λ i. profile_of i flags) (idc_of a.profile_idc)) same.flags
+
+-- and is taken by the same ends
+pub profile_through : (by : AnswerRules) (a x b : ProfileLevelId) → IsSameProfile x a → takes_profile by x b ≡ takes_profile by a b
+profile_through Rfc a x b same = same_through a x b same
+profile_through Webrtc a x b same =
+    ap (λ t. t || constrained_sub_profile (sub_profile x) (sub_profile b)) (same_through a x b same)
+    ∙ ap (λ s. same_profile a b || constrained_sub_profile s (sub_profile b)) (sub_through a x same)

@@ -12,6 +12,7 @@ use Rattle.hex.proofs.HexLemmas.{length-encode_with}
 use Rattle.h26x_answers.specs.declared.answer.Role.TheVariants as role
 use Rattle.h26x_fmtp.specs.declared.error.Fault.TheVariants.{NotHexadecimal}
 use Rattle.h26x_sdp.specs.declared.h264.H264Parameter.TheVariants as p
+use Rattle.h26x_answers.specs.declared.answer.AnswerRules.{AnswerRules}
 use Rattle.h26x_answers.specs.declared.answer.h264.ProfileLevelId.{ProfileLevelId}
 use Rattle.h26x_fmtp.specs.Tables.{ParameterRow, row_at}
 use Rattle.h26x_fmtp.specs.Parameters.{is_mark, IsValue, IsValueIfGiven, AreValues, AreParameters}
@@ -19,7 +20,7 @@ use Rattle.h26x_fmtp.specs.Reading.{FormatParameters, value_at}
 use Rattle.h26x_sdp.specs.H264Rows.{rows}
 use Rattle.h26x_answers.specs.Answers.{Terms, only_if, same_number, answered, answered_values, are_symmetric, answer_by, common_terms}
 use Rattle.h26x_answers.specs.AnsweredAgain.{IsAnsweredAgain}
-use Rattle.h26x_answers.specs.AnswersH264.{roles, rules, profile_level_id_text, at_level_of, level_rank, answer_id, answer_level, both_asymmetric, id_of, is_on, is_interleaved, can_deinterleave, can_order, same_profile, terms, terms_at, terms_of_ids}
+use Rattle.h26x_answers.specs.AnswersH264.{roles, rules, profile_level_id_text, at_level_of, level_rank, answer_id, answer_level, both_asymmetric, id_of, is_on, is_interleaved, can_deinterleave, can_order, takes_profile, terms, terms_at, terms_of_ids}
 use Rattle.h26x_answers.specs.AllowedH264.{is_sets_row}
 use Rattle.h26x_fmtp.proofs.PartLemmas.{by_test}
 use Rattle.h26x_answers.proofs.AnswersLemmas.{answer_parts}
@@ -57,17 +58,17 @@ id_kept offered a level are of_a of_level = by_test (level_rank a == level_rank 
     (id_value (at_level_of a level) (moved_bytes a level of_a of_level)))
 
 -- an answer is parameters
-pub answers_kept : (offered own answer : FormatParameters) → AreParameters rows offered → AreParameters rows own → answer_by rules offered own ≡ Some answer → AreParameters rows answer
-answers_kept offered own answer of_offered of_own h =
-    let (found, common, is) = answer_parts rules offered own answer (common_terms rules offered own) h in
-    let agreed = agreed_common offered own found common in
-    let of_a = id_of_bytes offered agreed.a agreed.offer_says in
-    let of_b = id_of_bytes own agreed.b agreed.own_says in
+pub answers_kept : (by : AnswerRules) (offered own answer : FormatParameters) → AreParameters rows offered → AreParameters rows own → answer_by (rules by) offered own ≡ Some answer → AreParameters rows answer
+answers_kept by offered own answer of_offered of_own h =
+    let (found, common, is) = answer_parts (rules by) offered own answer (common_terms (rules by) offered own) h in
+    let agreed = agreed_common by offered own found common in
+    let of_a = id_of_bytes by offered agreed.a agreed.offer_says in
+    let of_b = id_of_bytes by own agreed.b agreed.own_says in
     let asymmetric = both_asymmetric offered own in
     let level = answer_level asymmetric agreed.a agreed.b in
     let fits : IsValueIfGiven (row_at rows 0) found.level =
     subst (IsValueIfGiven (row_at rows 0)) (sym (ap (λ (t : Terms). t.level) agreed.is)) (id_kept offered agreed.a level of_offered of_a (level_bytes asymmetric agreed.a agreed.b of_a of_b)) in
-    subst (AreParameters rows) (sym is) (answer_kept rules offered own found refl
+    subst (AreParameters rows) (sym is) (answer_kept (rules by) offered own found refl
     (fits, (tt, (tt, (tt, (tt, (tt, (tt, (tt, (tt, (tt, (tt, (tt, (tt, (tt, (tt, (tt, (tt, (tt, (tt, (tt, (tt, (tt, (tt, tt))))))))))))))))))))))) of_offered of_own)
 
 -- ---- an answer is answered with itself
@@ -117,21 +118,21 @@ order_again own answer holds_both = by_test (is_interleaved answer)
     ∙ both_true (can_deinterleave answer own) (can_deinterleave own answer) both.0 both.1)
     (λ fails. ap (λ t. not t || (can_deinterleave answer own && can_deinterleave own answer)) fails)
 
-common_of : (offered own : FormatParameters) (a b : ProfileLevelId) → are_symmetric roles rows offered.values own.values ≡ true → id_of offered ≡ Some a → id_of own ≡ Some b
-    → same_profile a b ≡ true → can_order offered own ≡ true
-    → common_terms rules offered own ≡ Some (terms_at offered (both_asymmetric offered own) a b (answer_level (both_asymmetric offered own) a b))
-common_of offered own a b symmetric of_a of_b profile order =
-    ap (λ t. cond t (terms offered own) None) symmetric
-    ∙ ap (λ x. terms_of_ids offered own x (id_of own)) of_a
-    ∙ ap (λ y. terms_of_ids offered own (Some a) y) of_b
+common_of : (by : AnswerRules) (offered own : FormatParameters) (a b : ProfileLevelId) → are_symmetric roles rows offered.values own.values ≡ true → id_of by offered ≡ Some a → id_of by own ≡ Some b
+    → takes_profile by a b ≡ true → can_order offered own ≡ true
+    → common_terms (rules by) offered own ≡ Some (terms_at offered (both_asymmetric offered own) a b (answer_level (both_asymmetric offered own) a b))
+common_of by offered own a b symmetric of_a of_b profile order =
+    ap (λ t. cond t (terms by offered own) None) symmetric
+    ∙ ap (λ x. terms_of_ids by offered own x (id_of by own)) of_a
+    ∙ ap (λ y. terms_of_ids by offered own (Some a) y) of_b
     ∙ ap (λ t. cond t (Some (terms_at offered (both_asymmetric offered own) a b (answer_level (both_asymmetric offered own) a b))) None)
-    (both_true (same_profile a b) (can_order offered own) profile order)
+    (both_true (takes_profile by a b) (can_order offered own) profile order)
 
-symmetric_of : (offered own : FormatParameters) (found : Terms) → common_terms rules offered own ≡ Some found → are_symmetric roles rows offered.values own.values ≡ true
-symmetric_of offered own found h = by_test (are_symmetric roles rows offered.values own.values)
+symmetric_of : (by : AnswerRules) (offered own : FormatParameters) (found : Terms) → common_terms (rules by) offered own ≡ Some found → are_symmetric roles rows offered.values own.values ≡ true
+symmetric_of by offered own found h = by_test (are_symmetric roles rows offered.values own.values)
     (λ same. same)
     (λ other.
-    let e : None ≡ Some found = sym (ap (λ t. cond t (terms offered own) None) other) ∙ h in
+    let e : None ≡ Some found = sym (ap (λ t. cond t (terms by offered own) None) other) ∙ h in
     cc e)
 
 -- no row but those of parameter sets has their role
@@ -141,19 +142,19 @@ free_of_sets k within other is =
     let e : (not true || false) ≡ true = sym (ap (λ t. not t || is_sets_row k) is ∙ ap (λ t. not true || t) other) ∙ passes in
     cc e
 
-pub again : (offered own answer : FormatParameters) → AreParameters rows offered → AreParameters rows own → (is_interleaved answer ≡ true → can_deinterleave own own ≡ true)
-    → answer_by rules offered own ≡ Some answer → IsAnsweredAgain rules is_sets_row own answer
-again offered own answer of_offered of_own holds_own h =
-    let (found, common, is) = answer_parts rules offered own answer (common_terms rules offered own) h in
-    let agreed = agreed_common offered own found common in
-    let at = answer_rows offered own answer found of_offered of_own is in
+pub again : (by : AnswerRules) (offered own answer : FormatParameters) → AreParameters rows offered → AreParameters rows own → (is_interleaved answer ≡ true → can_deinterleave own own ≡ true)
+    → answer_by (rules by) offered own ≡ Some answer → IsAnsweredAgain (rules by) is_sets_row own answer
+again by offered own answer of_offered of_own holds_own h =
+    let (found, common, is) = answer_parts (rules by) offered own answer (common_terms (rules by) offered own) h in
+    let agreed = agreed_common by offered own found common in
+    let at = answer_rows by offered own answer found of_offered of_own is in
     let a = agreed.a in
     let b = agreed.b in
     let asymmetric = both_asymmetric offered own in
     let level = answer_level asymmetric a b in
-    let of_a = id_of_bytes offered a agreed.offer_says in
-    let of_b = id_of_bytes own b agreed.own_says in
-    let says = answer_says offered answer a level agreed.offer_says of_a (level_bytes asymmetric a b of_a of_b)
+    let of_a = id_of_bytes by offered a agreed.offer_says in
+    let of_b = id_of_bytes by own b agreed.own_says in
+    let says = answer_says by offered answer a level agreed.offer_says of_a (level_bytes asymmetric a b of_a of_b)
     (at.id ∙ ap (λ (t : Terms). t.level) agreed.is) in
     let x = says.id in
     let both = asymmetric_again offered own answer (at.asymmetry ∙ ap (λ (t : Terms). only_if t.asymmetric (value_at own.values 13)) agreed.is) in
@@ -163,7 +164,7 @@ again offered own answer of_offered of_own holds_own h =
     let lu : length own.values ≡ length roles = long_values rows own.values of_own.values in
     let values : answer.values ≡ answered_values found roles offered.values own.values = ap (λ (it : FormatParameters). it.values) is in
     let symmetric : are_symmetric roles rows answer.values own.values ≡ true =
-    ap (λ vs. are_symmetric roles rows vs own.values) values ∙ symmetric_again found roles rows offered.values own.values (symmetric_of offered own found common) in
+    ap (λ vs. are_symmetric roles rows vs own.values) values ∙ symmetric_again found roles rows offered.values own.values (symmetric_of by offered own found common) in
     let order = order_again own answer (λ passes.
     let there : found.reorders ≡ true = reorders ∙ sym interleaved ∙ passes in (
       hold_of_answer own own answer
@@ -182,8 +183,8 @@ again offered own answer of_offered of_own holds_own h =
       reorders = interleaved ∙ sym reorders;
     } in
     record {
-      twice = answered rules answer own twice_found;
-      is = ap (option_map (answered rules answer own)) (common_of answer own x b symmetric says.says agreed.own_says (profile_through a x b says.profile ∙ agreed.profile) order);
+      twice = answered (rules by) answer own twice_found;
+      is = ap (option_map (answered (rules by) answer own)) (common_of by answer own x b symmetric says.says agreed.own_says (profile_through by a x b says.profile ∙ agreed.profile) order);
       same = λ k within other.
           ap (λ vs. value_at (answered_values twice_found roles vs own.values) k) values
           ∙ row_again twice_found found roles offered.values own.values k lo lu within same (λ sets. absurd (free_of_sets k within other sets))

@@ -13,7 +13,7 @@ use Rattle.h26x_answers.proofs.AnswersLemmas.{answered_at}
 -- the levels of terms are values of their rows
 abbrev pub FitsAt : Role → ParameterRow → Terms → Type 0
 FitsAt role.Configuration row found = Unit {0}
-FitsAt role.Inferred row found = Unit {0}
+FitsAt role.Compared row found = Unit {0}
 FitsAt role.Level row found = IsValueIfGiven row found.level
 FitsAt role.HighestLevel row found = IsValueIfGiven row found.highest
 FitsAt role.Asymmetry row found = Unit {0}
@@ -35,7 +35,7 @@ only_kept false row value is = tt
 value_kept : (r : Role) (row : ParameterRow) (found : Terms) (o u : Option (List ℕ)) → FitsAt r row found → IsValueIfGiven row o → IsValueIfGiven row u
     → IsValueIfGiven row (answered_value r found o u)
 value_kept role.Configuration row found o u fits of_o of_u = of_o
-value_kept role.Inferred row found o u fits of_o of_u = of_o
+value_kept role.Compared row found o u fits of_o of_u = of_o
 value_kept role.Level row found o u fits of_o of_u = fits
 value_kept role.HighestLevel row found o u fits of_o of_u = fits
 value_kept role.Asymmetry row found o u fits of_o of_u = only_kept found.asymmetric row u of_u
@@ -66,7 +66,7 @@ answer_kept all offered own found long fits of_offered of_own = record {
 -- the configuration of an answer is ours too
 symmetric_at_again : (r : Role) (row : ParameterRow) (found : Terms) (o u : Option (List ℕ)) → is_symmetric_at r row o u ≡ true → is_symmetric_at r row (answered_value r found o u) u ≡ true
 symmetric_at_again role.Configuration row found o u same = same
-symmetric_at_again role.Inferred row found o u same = refl
+symmetric_at_again role.Compared row found o u same = refl
 symmetric_at_again role.Level row found o u same = refl
 symmetric_at_again role.HighestLevel row found o u same = refl
 symmetric_at_again role.Asymmetry row found o u same = refl
@@ -90,7 +90,7 @@ symmetric_again found (r ∷ roles) (row ∷ rows) (o ∷ os) (u ∷ us) same =
 -- whether a row's value depends on what the other end says of parameter sets
 abbrev pub is_sets : Role → Bool
 is_sets role.Configuration = false
-is_sets role.Inferred = false
+is_sets role.Compared = false
 is_sets role.Level = false
 is_sets role.HighestLevel = false
 is_sets role.Asymmetry = false
@@ -110,7 +110,7 @@ pub record SameTerms (again found : Terms) : Type 0 where
 pub value_again : (r : Role) (again found : Terms) (o u : Option (List ℕ)) → SameTerms again found → (is_sets r ≡ true → (again.sets ≡ found.sets) × (again.level_sets ≡ found.level_sets))
     → answered_value r again (answered_value r found o u) u ≡ answered_value r found o u
 value_again role.Configuration again found o u same sets = refl
-value_again role.Inferred again found o u same sets = refl
+value_again role.Compared again found o u same sets = refl
 value_again role.Level again found o u same sets = same.level
 value_again role.HighestLevel again found o u same sets = same.highest
 value_again role.Asymmetry again found o u same sets = ap (λ t. only_if t u) same.asymmetric

@@ -1,6 +1,6 @@
 -- Levels and buffers by what a format says.
-use Rattle.std.proofs.Common.{◌≡◌, ℕ, ◌<◌, ◌≤◌, true, false, not, ◌&&◌, cond, List, Option, Some, None, ◌⊎◌, inl, inr, refl, sym, ap, subst, ◌∙◌, arith, Bool}
-use Rattle.std.specs.Prelude.{◌||◌, nat_lt, nat_le, min, max}
+use Rattle.std.proofs.Common.{◌≡◌, ℕ, ◌<◌, ◌≤◌, true, not, ◌&&◌, List, Option, Some, None, inl, inr, refl, sym, ap, ◌∙◌, arith}
+use Rattle.std.specs.Prelude.{◌||◌, nat_lt, nat_le, max}
 use Rattle.std.specs.Option.{option_map}
 use Rattle.std.proofs.lemmas.Bool.{and_parts}
 use Rattle.std.proofs.lemmas.Bool.Decides.{nat_tests}
@@ -9,7 +9,7 @@ use Rattle.h26x_fmtp.specs.Tables.{ParameterRow}
 use Rattle.h26x_fmtp.specs.Reading.{FormatParameters, number_at, number_or_default}
 use Rattle.h26x_answers.specs.Answers.{holds}
 use Rattle.h26x_answers.specs.AnswersByLevel.{LevelRows, levels_by, levels_of, is_positive, can_hold}
-use Rattle.h26x_answers.specs.LevelsSaid.{IsWithin, IsWithinGiven, IsReceived, IsPositive, Fits}
+use Rattle.h26x_answers.specs.LevelsSaid.{IsWithin, IsReceived, IsPositive, Fits}
 use Rattle.h26x_fmtp.proofs.PartLemmas.{by_test}
 use Rattle.h26x_fmtp.proofs.TestLemmas.{both_true}
 use Rattle.h26x_answers.proofs.ByLevelLemmas.{SaysLevels, says_levels, low_by}

@@ -1,6 +1,7 @@
 -- Whose units may be sent in another order than decoded.
 use Rattle.std.proofs.Common.{◌≡◌, ℕ, true, Option, Some, None, ap}
 use Rattle.std.proofs.lemmas.Bool.{eqb-true}
+use Rattle.h26x_answers.specs.declared.answer.AnswerRules.{AnswerRules}
 use Rattle.h26x_sdp.specs.declared.h264.H264Parameter.TheVariants as h264_parameter
 use Rattle.h26x_sdp.specs.declared.h265.H265Parameter.TheVariants as h265_parameter
 use Rattle.h26x_sdp.specs.declared.h266.H266Parameter.TheVariants as h266_parameter
@@ -20,11 +21,11 @@ two_from : (n : Option ℕ) → same_number n (Some 2) ≡ true → n ≡ Some 2
 two_from None h = cc h
 two_from (Some n) h = ap (λ (k : ℕ). Some k) (eqb-true n 2 h)
 
-pub h264_order : SaysOrder h264.rules c264.Reorders
-h264_order it = (λ h. two_from (h264.number it h264_parameter.PacketizationMode) h, λ h. ap (λ n. same_number n (Some 2)) h)
+pub h264_order : (by : AnswerRules) → SaysOrder (h264.rules by) c264.Reorders
+h264_order by it = (λ h. two_from (h264.number it h264_parameter.PacketizationMode) h, λ h. ap (λ n. same_number n (Some 2)) h)
 
-pub h265_order : SaysOrder h265.rules c265.Reorders
-h265_order it =
+pub h265_order : (by : AnswerRules) → SaysOrder (h265.rules by) c265.Reorders
+h265_order by it =
     let row = h265_rows.row_place h265_parameter.SpropMaxDonDiff in
     (λ h. is_positive_said h265_rows.rows it row h, λ h. said_positive h265_rows.rows it row h)
 

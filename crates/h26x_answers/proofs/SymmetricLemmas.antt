@@ -1,6 +1,6 @@
 -- Rows of one configuration, by their places.
 use Rattle.std.proofs.Common.{◌≡◌, ℕ, zero, suc, ◌+◌, ◌<◌, true, List, [], ◌∷◌, length, get_or, drop, map, Option, Some, None, refl, sym, ap, ◌∙◌, arith}
-use Rattle.std.specs.Prelude.{◌&&◌, ◌==◌}
+use Rattle.std.specs.Prelude.{◌==◌}
 use Rattle.std.specs.Char.{to_ascii_lowercase}
 use Rattle.std.specs.Option.{option_map, option_and_then, option_or}
 use Rattle.std.proofs.lemmas.Bool.{and_parts, eqb-true, eq-eqb}
@@ -31,7 +31,7 @@ symmetric_row (r ∷ roles) (row ∷ rows) (o ∷ os) (u ∷ us) (suc k) h lr lo
 -- what a row of a role asks of two values
 abbrev pub AgreesAt : Role → ParameterRow → Option (List ℕ) → Option (List ℕ) → Type 0
 AgreesAt role.Configuration row o u = same_if_given row.kind (option_or o row.default) (option_or u row.default) ≡ true
-AgreesAt role.Inferred row o u = Unit {0}
+AgreesAt role.Compared row o u = Unit {0}
 AgreesAt role.Level row o u = Unit {0}
 AgreesAt role.HighestLevel row o u = Unit {0}
 AgreesAt role.Asymmetry row o u = Unit {0}
@@ -43,7 +43,7 @@ AgreesAt role.OperationPoint row o u = Unit {0}
 
 agrees_symmetric : (r : Role) (row : ParameterRow) (o u : Option (List ℕ)) → AgreesAt r row o u → is_symmetric_at r row o u ≡ true
 agrees_symmetric role.Configuration row o u same = same
-agrees_symmetric role.Inferred row o u same = refl
+agrees_symmetric role.Compared row o u same = refl
 agrees_symmetric role.Level row o u same = refl
 agrees_symmetric role.HighestLevel row o u same = refl
 agrees_symmetric role.Asymmetry row o u same = refl

@@ -1,10 +1,12 @@
 -- Answers of H.265 and of H.266 are parameters, and are answered again.
-use Rattle.std.proofs.Common.{◌≡◌, ℕ, zero, suc, ◌<◌, true, false, not, cond, List, [], ◌∷◌, length, Option, Some, None, refl, sym, ap, subst, ◌∙◌, arith, Bool}
+use Rattle.std.proofs.Common.{◌≡◌, ℕ, zero, suc, ◌<◌, true, false, not, ◌&&◌, cond, List, [], ◌∷◌, length, Option, Some, None, refl, sym, ap, subst, ◌∙◌, arith, Bool}
 use Rattle.std.specs.Prelude.{◌||◌, nat_lt, nat_eq, min}
 use Rattle.std.specs.Option.{option_map, option_and_then, option_or}
 use Rattle.std.specs.Cmp.Lexicographic.{pointwise, other_text}
-use Rattle.h26x_fmtp.specs.declared.kind.Kind.TheVariants.{Units}
+use Rattle.h26x_fmtp.specs.declared.kind.Kind.TheVariants.{Hexadecimal, Units}
 use Rattle.h26x_fmtp.specs.UnitTypes.{h266_vps}
+use Rattle.h26x_answers.specs.declared.answer.AnswerRules.{AnswerRules}
+use Rattle.h26x_answers.specs.declared.answer.AnswerRules.TheVariants.{Rfc, Webrtc}
 use Rattle.h26x_answers.specs.declared.answer.Role.TheVariants as role
 use Rattle.h26x_answers.specs.declared.answer.by_level.Levels.{Levels}
 use Rattle.h26x_fmtp.specs.Kinds.{fault_in, number_of}
@@ -78,16 +80,16 @@ highest_fits rules by table offered own found of_offered of_own of_default agree
     (choice_kept row (nat_lt (min a.level b.level) (min a.highest b.highest)) inner None
     (choice_kept row (nat_lt b.highest a.highest) (highest_value rules.rows by own b) (highest_value rules.rows by offered a) ours theirs) tt)
 
-pub h265_kept : (offered own answer : FormatParameters) → AreParameters h265.rules.rows offered → AreParameters h265.rules.rows own → answer_by h265.rules offered own ≡ Some answer → AreParameters h265.rules.rows answer
-h265_kept offered own answer of_offered of_own h =
-    let (found, common, is) = answer_parts h265.rules offered own answer (common_terms h265.rules offered own) h in
-    let terms = (h265_parts offered own found (common_parts h265.rules offered own found common).1).1 in
-    let agreed = agreed_by_level h265.rules.rows h265.by offered own found terms in
-    let low : IsValueIfGiven (row_at h265.rules.rows 3) found.level = level_fits h265.rules h265.by h265_describes offered own found of_offered of_own agreed in
-    let high : IsValueIfGiven (row_at h265.rules.rows 8) found.highest =
-    highest_fits h265.rules h265.by h265_describes offered own found of_offered of_own
+pub h265_kept : (which : AnswerRules) (offered own answer : FormatParameters) → AreParameters (h265.rules which).rows offered → AreParameters (h265.rules which).rows own → answer_by (h265.rules which) offered own ≡ Some answer → AreParameters (h265.rules which).rows answer
+h265_kept which offered own answer of_offered of_own h =
+    let (found, common, is) = answer_parts (h265.rules which) offered own answer (common_terms (h265.rules which) offered own) h in
+    let terms = (h265_parts which offered own found (common_parts (h265.rules which) offered own found common).1).1 in
+    let agreed = agreed_by_level (h265.rules which).rows h265.by offered own found terms in
+    let low : IsValueIfGiven (row_at (h265.rules which).rows 3) found.level = level_fits (h265.rules which) h265.by (h265_describes which) offered own found of_offered of_own agreed in
+    let high : IsValueIfGiven (row_at (h265.rules which).rows 8) found.highest =
+    highest_fits (h265.rules which) h265.by (h265_describes which) offered own found of_offered of_own
     (record { fits = refl; trimmed = record { start = refl; end = refl }; one_part = refl }) agreed in
-    subst (AreParameters h265.rules.rows) (sym is) (answer_kept h265.rules offered own found refl
+    subst (AreParameters (h265.rules which).rows) (sym is) (answer_kept (h265.rules which) offered own found refl
     (tt, (tt, (tt, (low, (tt, (tt, (tt, (tt, (high, (tt, (tt, (tt, (tt, (tt, (tt, (tt, (tt, (tt, (tt, (tt, (tt, (tt, (tt, (tt, (tt, (tt, (tt, (tt, (tt, (tt, tt)))))))))))))))))))))))))))))) of_offered of_own)
 
 pub h266_kept : (offered own answer : FormatParameters) → AreParameters h266.rules.rows offered → AreParameters h266.rules.rows own → answer_by h266.rules offered own ≡ Some answer → AreParameters h266.rules.rows answer
@@ -121,29 +123,37 @@ again_of rules offered own found twice long of_offered of_own symmetric is same 
       others = refl;
     }
 
-both_numbers : (a b : Option ℕ) → a ≡ b → (c : Option ℕ) → same_number b c ≡ true → same_number a c ≡ true
-both_numbers a b e c same = ap (λ n. same_number n c) e ∙ same
+-- whose profile, constraints and flags are the same agrees with the same formats
+agree_again : (which : AnswerRules) (x y own : FormatParameters) → value_at x.values 1 ≡ value_at y.values 1 → value_at x.values 4 ≡ value_at y.values 4 → value_at x.values 5 ≡ value_at y.values 5
+    → h265.agree which y own ≡ true → h265.agree which x own ≡ true
+agree_again Webrtc x y own profile constraints indicator h = refl
+agree_again Rfc x y own profile constraints indicator h =
+    let rows = (h265.rules Rfc).rows in
+    let same : h265.compatible_profiles x ≡ h265.compatible_profiles y =
+    ap (λ v. h265.flags_or_profile (option_and_then (number_of (row_at rows 1).kind) (option_or v (row_at rows 1).default)) (value_at x.values 5)) profile
+    ∙ ap (λ v. h265.flags_or_profile (number_or_default rows y 1) v) indicator in
+    ap (λ v. same_if_given (Hexadecimal 6) (option_or v (row_at rows 4).default) (value_or_default rows own 4) && same_number (h265.compatible_profiles x) (h265.compatible_profiles own)) constraints
+    ∙ ap (λ n. h265.same_constraints y own && same_number n (h265.compatible_profiles own)) same ∙ h
 
-pub h265_again : (offered own answer : FormatParameters) → AreParameters h265.rules.rows offered → AreParameters h265.rules.rows own → can_hold h265.rules.rows h265.by own own ≡ true
-    → answer_by h265.rules offered own ≡ Some answer → IsAnsweredAgain h265.rules (λ _. false) own answer
-h265_again offered own answer of_offered of_own holds_own h =
-    let (found, common, is) = answer_parts h265.rules offered own answer (common_terms h265.rules offered own) h in
-    let parts = common_parts h265.rules offered own found common in
-    let flags = h265_parts offered own found parts.1 in
-    let agreed = agreed_by_level h265.rules.rows h265.by offered own found flags.1 in
-    let it = answered h265.rules offered own found in
-    let more = terms_again h265.rules h265.by h265_describes offered own found of_offered of_own agreed holds_own in
+pub h265_again : (which : AnswerRules) (offered own answer : FormatParameters) → AreParameters (h265.rules which).rows offered → AreParameters (h265.rules which).rows own → can_hold (h265.rules which).rows h265.by own own ≡ true
+    → answer_by (h265.rules which) offered own ≡ Some answer → IsAnsweredAgain (h265.rules which) (λ _. false) own answer
+h265_again which offered own answer of_offered of_own holds_own h =
+    let (found, common, is) = answer_parts (h265.rules which) offered own answer (common_terms (h265.rules which) offered own) h in
+    let parts = common_parts (h265.rules which) offered own found common in
+    let flags = h265_parts which offered own found parts.1 in
+    let agreed = agreed_by_level (h265.rules which).rows h265.by offered own found flags.1 in
+    let it = answered (h265.rules which) offered own found in
+    let more = terms_again (h265.rules which) h265.by (h265_describes which) offered own found of_offered of_own agreed holds_own in
     let at_profile : 1 < 30 = omega arith in
+    let at_constraints : 4 < 30 = omega arith in
     let at_indicator : 5 < 30 = omega arith in
-    let profile = row_of_answer h265.rules offered own found 1 role.Configuration refl of_offered of_own at_profile refl in
-    let indicator = row_of_answer h265.rules offered own found 5 role.Inferred refl of_offered of_own at_indicator refl in
-    let same : h265.compatible_profiles it ≡ h265.compatible_profiles offered =
-    ap (λ v. h265.flags_or_profile (option_and_then (number_of (row_at h265.rules.rows 1).kind) (option_or v (row_at h265.rules.rows 1).default)) (value_at it.values 5)) profile
-    ∙ ap (λ v. h265.flags_or_profile (number_or_default h265.rules.rows offered 1) v) indicator in
-    let through : h265.terms it own ≡ Some more.twice =
-    ap (λ t. cond t (terms_by_level h265.rules.rows h265.by it own) None) (both_numbers (h265.compatible_profiles it) (h265.compatible_profiles offered) same (h265.compatible_profiles own) flags.0) ∙ more.is in
-    subst (IsAnsweredAgain h265.rules (λ _. false) own) (sym is)
-    (again_of h265.rules offered own found more.twice refl of_offered of_own parts.0 through more.same (more.sets, more.level_sets))
+    let profile = row_of_answer (h265.rules which) offered own found 1 role.Configuration refl of_offered of_own at_profile refl in
+    let constraints = row_of_answer (h265.rules which) offered own found 4 role.Compared refl of_offered of_own at_constraints refl in
+    let indicator = row_of_answer (h265.rules which) offered own found 5 role.Compared refl of_offered of_own at_indicator refl in
+    let through : h265.terms which it own ≡ Some more.twice =
+    ap (λ t. cond t (terms_by_level (h265.rules which).rows h265.by it own) None) (agree_again which it offered own profile constraints indicator flags.0) ∙ more.is in
+    subst (IsAnsweredAgain (h265.rules which) (λ _. false) own) (sym is)
+    (again_of (h265.rules which) offered own found more.twice refl of_offered of_own parts.0 through more.same (more.sets, more.level_sets))
 
 -- sets are the same as themselves
 sets_themselves : (value : Option (List ℕ)) → same_if_given (Units h266_vps) value value ≡ true

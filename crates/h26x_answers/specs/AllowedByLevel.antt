@@ -10,7 +10,7 @@ use Rattle.h26x_answers.specs.AnswersByLevel.{LevelRows, levels_of, can_hold}
 
 abbrev pub is_configuration : Role → Bool
 is_configuration role.Configuration = true
-is_configuration role.Inferred = true
+is_configuration role.Compared = true
 is_configuration role.Level = false
 is_configuration role.HighestLevel = false
 is_configuration role.Asymmetry = false
@@ -22,7 +22,7 @@ is_configuration role.OperationPoint = false
 
 abbrev pub is_choice : Role → Bool
 is_choice role.Configuration = false
-is_choice role.Inferred = false
+is_choice role.Compared = false
 is_choice role.Level = false
 is_choice role.HighestLevel = false
 is_choice role.Asymmetry = false

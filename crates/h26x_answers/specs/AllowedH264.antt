@@ -3,6 +3,7 @@
 use Rattle.std.specs.Prelude.{◌≡◌, ◌⊎◌, ◌==◌, ◌||◌, ℕ, ◌≤◌, min, Bool, true, false, if◌then◌else◌, Some, None}
 use Rattle.h26x_sdp.specs.declared.h264.H264Parameter.{H264Parameter}
 use Rattle.h26x_sdp.specs.declared.h264.H264Parameter.TheVariants as p
+use Rattle.h26x_answers.specs.declared.answer.AnswerRules.{AnswerRules}
 use Rattle.h26x_answers.specs.declared.answer.h264.ProfileLevelId.{ProfileLevelId}
 use Rattle.h26x_fmtp.specs.Reading.{FormatParameters, value_at}
 use Rattle.h26x_sdp.specs.H264Rows.{row_place}
@@ -21,11 +22,11 @@ pub record IsSameProfile (a b : ProfileLevelId) : Type 0 where
 -- but where both ends allow asymmetry; parameter sets are of one kind, and none where the offer wants
 -- them in band; what is of interleaved packets stands in mode 2 alone, in which each end has the buffer
 -- that the other asks for
-pub record IsH264Answer (offered answer : FormatParameters) : Type 0 where
+pub record IsH264Answer (by : AnswerRules) (offered answer : FormatParameters) : Type 0 where
   pub theirs : ProfileLevelId
   pub ours : ProfileLevelId
-  pub offer_says : id_of offered ≡ Some theirs
-  pub answer_says : id_of answer ≡ Some ours
+  pub offer_says : id_of by offered ≡ Some theirs
+  pub answer_says : id_of by answer ≡ Some ours
   pub profile : IsSameProfile ours theirs
   pub mode : number answer p.PacketizationMode ≡ number offered p.PacketizationMode
   pub level : both_asymmetric offered answer ≡ false → level_rank ours ≤ level_rank theirs

@@ -6,6 +6,7 @@ use Rattle.h26x_fmtp.specs.declared.kind.Kind.{Kind}
 use Rattle.h26x_fmtp.specs.declared.kind.Kind.TheVariants.{Number, HexadecimalNumber, Hexadecimal, TxMode, Units, Text}
 use Rattle.h26x_answers.specs.declared.answer.Role.{Role}
 use Rattle.h26x_answers.specs.declared.answer.AnswerConfig.{AnswerConfig}
+use Rattle.h26x_answers.specs.declared.answer.AnswerRules.{AnswerRules}
 use Rattle.h26x_answers.specs.declared.fault.FormatFault.{FormatFault}
 use Rattle.h26x_answers.specs.declared.fault.FormatFault.TheVariants.{OutOfOrder}
 use Rattle.h26x_answers.specs.declared.answer.Role.TheVariants as role
@@ -70,7 +71,7 @@ same_if_given kind (Some a) (Some b) = same_value kind a b
 abbrev pub is_symmetric_at : Role → ParameterRow → Option (List ℕ) → Option (List ℕ) → Bool
 is_symmetric_at role.Configuration row offered own = same_if_given row.kind
     (option_or offered row.default) (option_or own row.default)
-is_symmetric_at role.Inferred row offered own = true
+is_symmetric_at role.Compared row offered own = true
 is_symmetric_at role.Level row offered own = true
 is_symmetric_at role.HighestLevel row offered own = true
 is_symmetric_at role.Asymmetry row offered own = true
@@ -97,7 +98,7 @@ only_if belongs value = if belongs then value else None
 -- the value of a parameter in the answer, of the offer's and our own
 abbrev pub answered_value : Role → Terms → Option (List ℕ) → Option (List ℕ) → Option (List ℕ)
 answered_value role.Configuration terms offered own = offered
-answered_value role.Inferred terms offered own = offered
+answered_value role.Compared terms offered own = offered
 answered_value role.Level terms offered own = terms.level
 answered_value role.HighestLevel terms offered own = terms.highest
 answered_value role.Asymmetry terms offered own = only_if terms.asymmetric own
@@ -127,15 +128,17 @@ pub record Rules : Type 0 where
   -- whether a format's units may be sent in another order than decoded
   pub reorders : FormatParameters → Bool
 
-abbrev pub rules_of : List ParameterRow → List Role →
-    (FormatParameters → FormatParameters → Option Terms) → (FormatParameters → Bool) →
-    (FormatParameters → Option FormatFault) → (FormatParameters → Bool) → Rules
-rules_of rows roles terms known fault reorders = record {
+-- those of the RFC, or of WebRTC's peers
+abbrev pub rules_of : AnswerRules → List ParameterRow → List Role →
+    (AnswerRules → FormatParameters → FormatParameters → Option Terms) →
+    (AnswerRules → FormatParameters → Bool) →
+    (AnswerRules → FormatParameters → Option FormatFault) → (FormatParameters → Bool) → Rules
+rules_of by rows roles terms known fault reorders = record {
   rows = rows;
   roles = roles;
-  terms = terms;
-  known = known;
-  fault = fault;
+  terms = terms by;
+  known = known by;
+  fault = fault by;
   reorders = reorders;
 }
 

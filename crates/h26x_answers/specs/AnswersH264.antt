@@ -1,5 +1,5 @@
 -- Answers to offers of H.264 (RFC 6184, section 8.2.2).
-use Rattle.std.specs.Prelude.{ℕ, ◌+◌, ◌-◌, ◌*◌, ◌==◌, max, nat_lt, nat_le, Bool, false, not, ◌&&◌, ◌||◌, if◌then◌else◌, List, [], ◌∷◌, find, Option, Some, None, is_some, Result, Ok}
+use Rattle.std.specs.Prelude.{ℕ, ◌+◌, ◌-◌, ◌*◌, ◌==◌, max, nat_lt, nat_le, Bool, false, not, ◌&&◌, ◌||◌, if◌then◌else◌, List, [], ◌∷◌, codes, find, Option, Some, None, is_some, Result, Ok}
 use Rattle.std.specs.Option.{option_and_then, option_or, unwrap_or}
 use Rattle.hex.specs.Hex.{decode_sized, encode_lower}
 use Rattle.hex.specs.declared.error.FromHexError.{FromHexError}
@@ -7,12 +7,15 @@ use Rattle.h26x_profile.specs.H264.{idc_of, profile_of}
 use Rattle.h26x_profile.specs.Pattern.{bit_of}
 use Rattle.h26x_profile.specs.declared.h264.H264Profile.{H264Profile}
 use Rattle.h26x_profile.specs.declared.h264.H264Profile.TheVariants as profile
+use Rattle.h26x_answers.specs.declared.answer.AnswerRules.{AnswerRules}
+use Rattle.h26x_answers.specs.declared.answer.AnswerRules.TheVariants.{Rfc, Webrtc}
 use Rattle.h26x_answers.specs.declared.answer.Role.{Role}
 use Rattle.h26x_answers.specs.declared.answer.Role.TheVariants as role
 use Rattle.h26x_sdp.specs.declared.h264.H264Parameter.{H264Parameter}
 use Rattle.h26x_sdp.specs.declared.h264.H264Parameter.TheVariants as p
 use Rattle.h26x_answers.specs.declared.answer.h264.ProfileLevelId.{ProfileLevelId}
-use Rattle.h26x_fmtp.specs.Reading.{FormatParameters, value_at, value_or_default, number_at, number_or_default}
+use Rattle.h26x_fmtp.specs.Tables.{row_at}
+use Rattle.h26x_fmtp.specs.Reading.{FormatParameters, value_at, number_at, number_or_default}
 use Rattle.h26x_sdp.specs.H264Rows.{rows, row_place}
 use Rattle.h26x_answers.specs.declared.fault.FormatFault.{FormatFault}
 use Rattle.h26x_answers.specs.declared.fault.FormatFault.TheVariants as faults
@@ -104,6 +107,24 @@ abbrev pub same_profile : ProfileLevelId → ProfileLevelId → Bool
 same_profile a b = ((a.profile_idc == b.profile_idc) && (profile_flags a == profile_flags b))
     || same_sub_profile (sub_profile a) (sub_profile b)
 
+-- whether a profile is the constrained one of another: its streams are the other's too (Rec. ITU-T
+-- H.264, A.2.1.1 and A.2.4.2)
+abbrev pub is_constrained_of : H264Profile → H264Profile → Bool
+is_constrained_of a b = ((profile_place a == 1) && (profile_place b == 0))
+    || ((profile_place a == 5) && (profile_place b == 4))
+
+abbrev pub constrained_sub_profile : Option H264Profile → Option H264Profile → Bool
+constrained_sub_profile (Some a) (Some b) = is_constrained_of a b
+constrained_sub_profile (Some a) None = false
+constrained_sub_profile None b = false
+
+-- whether an end of a profile takes an offered one: the same, and by WebRTC's rules the constrained
+-- one of its own too
+abbrev pub takes_profile : AnswerRules → ProfileLevelId → ProfileLevelId → Bool
+takes_profile Rfc offered own = same_profile offered own
+takes_profile Webrtc offered own = same_profile offered own
+    || constrained_sub_profile (sub_profile offered) (sub_profile own)
+
 -- the profile of one at the level of another
 abbrev pub at_level_of : ProfileLevelId → ProfileLevelId → ProfileLevelId
 at_level_of a b = record {
@@ -118,9 +139,15 @@ number it parameter = number_or_default rows it (row_place parameter)
 abbrev pub is_on : FormatParameters → H264Parameter → Bool
 is_on it parameter = same_number (number it parameter) (Some 1)
 
-abbrev pub id_of : FormatParameters → Option ProfileLevelId
-id_of it = option_and_then profile_level_id_of
-    (value_or_default rows it (row_place p.ProfileLevelId))
+-- what is said where no profile-level-id is: Baseline at level 1 (section 8.1), and by WebRTC's rules
+-- Constrained Baseline at level 3.1
+abbrev pub unsaid_id : AnswerRules → Option (List ℕ)
+unsaid_id Rfc = (row_at rows (row_place p.ProfileLevelId)).default
+unsaid_id Webrtc = Some (codes "42e01f")
+
+abbrev pub id_of : AnswerRules → FormatParameters → Option ProfileLevelId
+id_of by it = option_and_then profile_level_id_of
+    (option_or (value_at it.values (row_place p.ProfileLevelId)) (unsaid_id by))
 
 -- the level that the two bytes of max-recv-level say, as `level_rank`: by bit 4 of the first of them
 abbrev pub flagged_rank : ℕ → ℕ → ℕ
@@ -204,17 +231,17 @@ terms_at offered asymmetric a b level = record {
   level_sets = with_level_sets offered (rank_back offered asymmetric a level) (level_rank level);
 }
 
-abbrev pub terms_of_ids : FormatParameters → FormatParameters → Option ProfileLevelId →
-    Option ProfileLevelId → Option Terms
-terms_of_ids offered own None b = None
-terms_of_ids offered own (Some a) None = None
-terms_of_ids offered own (Some a) (Some b) =
-    if same_profile a b && can_order offered own then Some (terms_at offered
+abbrev pub terms_of_ids : AnswerRules → FormatParameters → FormatParameters →
+    Option ProfileLevelId → Option ProfileLevelId → Option Terms
+terms_of_ids by offered own None b = None
+terms_of_ids by offered own (Some a) None = None
+terms_of_ids by offered own (Some a) (Some b) =
+    if takes_profile by a b && can_order offered own then Some (terms_at offered
     (both_asymmetric offered own) a b (answer_level (both_asymmetric offered own) a b)) else None
 
 -- the terms of two formats of one packetization mode
-abbrev pub terms : FormatParameters → FormatParameters → Option Terms
-terms offered own = terms_of_ids offered own (id_of offered) (id_of own)
+abbrev pub terms : AnswerRules → FormatParameters → FormatParameters → Option Terms
+terms by offered own = terms_of_ids by offered own (id_of by offered) (id_of by own)
 
 -- ---- formats that RFC 6184, section 8.1, lets an end say of itself
 
@@ -302,8 +329,8 @@ abbrev pub known_id : Option ProfileLevelId → Bool
 known_id None = false
 known_id (Some id) = is_level id
 
-abbrev pub known : FormatParameters → Bool
-known it = known_id (id_of it)
+abbrev pub known : AnswerRules → FormatParameters → Bool
+known by it = known_id (id_of by it)
 
 abbrev pub fault_of_id : FormatParameters → Option ProfileLevelId → Option FormatFault
 fault_of_id it None = Some faults.Level
@@ -312,15 +339,15 @@ fault_of_id it (Some id) =
 
 -- the first rule that a format of one's own breaks: its level, the highest one, its limits, and what it
 -- says of packets out of order
-abbrev pub fault : FormatParameters → Option FormatFault
-fault it = fault_of_id it (id_of it)
+abbrev pub fault : AnswerRules → FormatParameters → Option FormatFault
+fault by it = fault_of_id it (id_of by it)
 
-abbrev pub rules : Rules
-rules = record {
+abbrev pub rules : AnswerRules → Rules
+rules by = record {
   rows = rows;
   roles = roles;
-  terms = terms;
-  known = known;
-  fault = fault;
+  terms = terms by;
+  known = known by;
+  fault = fault by;
   reorders = is_interleaved;
 }

@@ -1,15 +1,18 @@
 -- Answers to offers of H.265 (RFC 7798, section 7.2.2).
-use Rattle.std.specs.Prelude.{ℕ, Bool, ◌+◌, ◌-◌, ◌*◌, ◌^◌, if◌then◌else◌, List, [], ◌∷◌, Option, Some, None, Result, Ok}
+use Rattle.std.specs.Prelude.{ℕ, Bool, true, ◌&&◌, ◌+◌, ◌-◌, ◌*◌, ◌^◌, if◌then◌else◌, List, [], ◌∷◌, Option, Some, None, Result, Ok}
 use Rattle.std.specs.Option.{option_map}
 use Rattle.hex.specs.Hex.{decode_sized}
 use Rattle.hex.specs.declared.error.FromHexError.{FromHexError}
+use Rattle.h26x_fmtp.specs.declared.kind.Kind.TheVariants.{Hexadecimal}
+use Rattle.h26x_answers.specs.declared.answer.AnswerRules.{AnswerRules}
+use Rattle.h26x_answers.specs.declared.answer.AnswerRules.TheVariants.{Rfc, Webrtc}
 use Rattle.h26x_answers.specs.declared.answer.Role.{Role}
 use Rattle.h26x_answers.specs.declared.answer.Role.TheVariants as role
 use Rattle.h26x_sdp.specs.declared.h265.H265Parameter.TheVariants as p
-use Rattle.h26x_fmtp.specs.Reading.{FormatParameters, value_at, number_or_default}
+use Rattle.h26x_fmtp.specs.Reading.{FormatParameters, value_at, value_or_default, number_or_default}
 use Rattle.h26x_sdp.specs.H265Rows.{rows, row_place}
 use Rattle.h26x_answers.specs.OwnH265 as own
-use Rattle.h26x_answers.specs.Answers.{Terms, Rules, same_number}
+use Rattle.h26x_answers.specs.Answers.{Terms, Rules, same_number, same_if_given}
 use Rattle.h26x_answers.specs.AnswersByLevel.{LevelRows, is_positive, terms_by_level}
 
 -- what each parameter is in an offer and its answer (table 1), in the order of the table
@@ -20,7 +23,7 @@ roles =
     -- level-id
     role.Level ∷
     -- interop-constraints and profile-compatibility-indicator
-    role.Configuration ∷ role.Inferred ∷
+    role.Compared ∷ role.Compared ∷
     -- sprop-sub-layer-id and recv-sub-layer-id
     role.Own ∷ role.OperationPoint ∷
     -- max-recv-level-id and tx-mode
@@ -59,21 +62,33 @@ abbrev pub compatible_profiles : FormatParameters → Option ℕ
 compatible_profiles it = flags_or_profile (number_or_default rows it (row_place p.ProfileId))
     (value_at it.values (row_place p.ProfileCompatibilityIndicator))
 
--- the terms of two formats of one configuration, if they have the same flags
-abbrev pub terms : FormatParameters → FormatParameters → Option Terms
-terms offered own =
-    if same_number (compatible_profiles offered) (compatible_profiles own) then
-    terms_by_level rows by offered own else None
+-- whether two formats have the same constraints
+abbrev pub same_constraints : FormatParameters → FormatParameters → Bool
+same_constraints offered own = same_if_given (Hexadecimal 6)
+    (value_or_default rows offered (row_place p.InteropConstraints))
+    (value_or_default rows own (row_place p.InteropConstraints))
+
+-- whether two formats are of one profile beside its number: the same constraints and the same flags;
+-- WebRTC's peers compare neither
+abbrev pub agree : AnswerRules → FormatParameters → FormatParameters → Bool
+agree Rfc offered own = same_constraints offered own
+    && same_number (compatible_profiles offered) (compatible_profiles own)
+agree Webrtc offered own = true
+
+-- the terms of two formats of one configuration
+abbrev pub terms : AnswerRules → FormatParameters → FormatParameters → Option Terms
+terms rules offered own =
+    if agree rules offered own then terms_by_level rows by offered own else None
 
 -- packets bear decoding order numbers
 abbrev pub reorders : FormatParameters → Bool
 reorders it = is_positive (number_or_default rows it (row_place p.SpropMaxDonDiff))
 
-abbrev pub rules : Rules
-rules = record {
+abbrev pub rules : AnswerRules → Rules
+rules which = record {
   rows = rows;
   roles = roles;
-  terms = terms;
+  terms = terms which;
   known = own.known;
   fault = own.fault;
   reorders = reorders;

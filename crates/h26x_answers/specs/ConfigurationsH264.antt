@@ -1,10 +1,14 @@
 -- What formats of H.264 say that each end can send and receive, for unicast, and which answers there
--- are (RFC 6184, sections 8.1 and 8.2.2). Nothing here is said by how an answer is made.
-use Rattle.std.specs.Prelude.{◌≡◌, ◌⊎◌, ℕ, ◌≤◌, ◌<◌, List, [], ◌∷◌, Option, Some, None}
+-- are, by the RFC (RFC 6184, sections 8.1 and 8.2.2) and by WebRTC's peers. Nothing here is said by how
+-- an answer is made.
+use Rattle.std.specs.Prelude.{◌≡◌, ◌⊎◌, ℕ, ◌≤◌, List, [], ◌∷◌, Some, None}
 use Rattle.std.specs.List.{AllByRecursion}
 use Rattle.h26x_profile.specs.H264.{idc_of, profile_of}
 use Rattle.h26x_profile.specs.declared.h264.H264Profile.{H264Profile}
 use Rattle.h26x_profile.specs.declared.h264.H264ProfileIdc.{H264ProfileIdc}
+use Rattle.h26x_profile.specs.declared.h264.H264Profile.TheVariants as profiles
+use Rattle.h26x_answers.specs.declared.answer.AnswerRules.{AnswerRules}
+use Rattle.h26x_answers.specs.declared.answer.AnswerRules.TheVariants.{Rfc, Webrtc}
 use Rattle.h26x_sdp.specs.declared.h264.H264Parameter.{H264Parameter}
 use Rattle.h26x_sdp.specs.declared.h264.H264Parameter.TheVariants as p
 use Rattle.h26x_answers.specs.declared.answer.h264.ProfileLevelId.{ProfileLevelId}
@@ -35,12 +39,34 @@ pub record IsOneSubProfile (a b : ProfileLevelId) : Type 0 where
 abbrev pub AreOfOneProfile : ProfileLevelId → ProfileLevelId → Type 0
 AreOfOneProfile a b = IsSameProfile a b ⊎ IsOneSubProfile a b
 
+-- one profile is the constrained one of another: each stream of it obeys the other's constraints too
+-- (Rec. ITU-T H.264, A.2.1.1 of Constrained Baseline, A.2.4.2 of Constrained High)
+abbrev pub IsConstrainedOf : H264Profile → H264Profile → Type 0
+IsConstrainedOf narrow wide =
+    ((narrow ≡ profiles.ConstrainedBaseline) × (wide ≡ profiles.Baseline))
+    ⊎ ((narrow ≡ profiles.ConstrainedHigh) × (wide ≡ profiles.High))
+
+-- the same of three bytes
+pub record IsConstrained (a b : ProfileLevelId) : Type 0 where
+  pub narrow : H264Profile
+  pub wide : H264Profile
+  pub first : IsOfSubProfile a narrow
+  pub second : IsOfSubProfile b wide
+  pub constrained : IsConstrainedOf narrow wide
+
+-- streams of a profile are those of an end's: of one profile, and by WebRTC's rules of the constrained
+-- one too
+abbrev pub IsOfProfile : AnswerRules → ProfileLevelId → ProfileLevelId → Type 0
+IsOfProfile Rfc a b = AreOfOneProfile a b
+IsOfProfile Webrtc a b = AreOfOneProfile a b ⊎ IsConstrained a b
+
 -- what an end says that it sends and receives (section 8.1): its profile, no level above its own, and
 -- its packetization mode
-pub record Says (it : FormatParameters) (configuration : Configuration) : Type 0 where
+pub record Says (by : AnswerRules) (it : FormatParameters) (configuration : Configuration) :
+    Type 0 where
   pub id : ProfileLevelId
-  pub said : id_of it ≡ Some id
-  pub profile : AreOfOneProfile configuration.id id
+  pub said : id_of by it ≡ Some id
+  pub profile : IsOfProfile by configuration.id id
   pub mode : number it p.PacketizationMode ≡ Some configuration.mode
   pub level : level_rank configuration.id ≤ level_rank id
 
@@ -52,10 +78,11 @@ pub record IsWithinGiven (it : FormatParameters) (rank : ℕ) : Type 0 where
 
 -- what an end says that it can receive (section 8.1, max-recv-level): the same up to the higher of its
 -- level and of max-recv-level
-pub record Receives (it : FormatParameters) (configuration : Configuration) : Type 0 where
+pub record Receives (by : AnswerRules) (it : FormatParameters) (configuration : Configuration) :
+    Type 0 where
   pub id : ProfileLevelId
-  pub said : id_of it ≡ Some id
-  pub profile : AreOfOneProfile configuration.id id
+  pub said : id_of by it ≡ Some id
+  pub profile : IsOfProfile by configuration.id id
   pub mode : number it p.PacketizationMode ≡ Some configuration.mode
   pub level : (level_rank configuration.id ≤ level_rank id)
       ⊎ IsWithinGiven it (level_rank configuration.id)
@@ -75,12 +102,13 @@ pub record IsPutInOrder (sender receiver : FormatParameters) : Type 0 where
   pub given : number receiver p.DeintBufCap ≡ Some room
   pub fits : need ≤ room
 
--- two ends have a configuration in common (section 8.2.2): one that both say, and in interleaved mode
--- each can put in order what the other sends
-pub record IsCommon (offered own : FormatParameters) : Type 0 where
+-- two ends have a configuration in common (section 8.2.2): one that both say, of the profile that is
+-- offered, and in interleaved mode each can put in order what the other sends
+pub record IsCommon (by : AnswerRules) (offered own : FormatParameters) : Type 0 where
   pub configuration : Configuration
-  pub theirs : Says offered configuration
-  pub ours : Says own configuration
+  pub theirs : Says by offered configuration
+  pub ours : Says by own configuration
+  pub whole : AreOfOneProfile configuration.id theirs.id
   pub forth : configuration.mode ≡ 2 → IsPutInOrder offered own
   pub back : configuration.mode ≡ 2 → IsPutInOrder own offered
 
@@ -110,19 +138,29 @@ abbrev pub IsNoneOrOurs : FormatParameters → FormatParameters → H264Paramete
 IsNoneOrOurs own answer parameter = (value_at answer.values (row_place parameter) ≡ None)
     ⊎ SameValue answer own parameter
 
+-- a configuration is of the offered profile; by the RFC each of ours is, where there is an answer
+pub record IsOfOffered (offered : FormatParameters) (configuration : Configuration) : Type 0 where
+  pub id : ProfileLevelId
+  pub said : id_of Webrtc offered ≡ Some id
+  pub profile : IsOfProfile Webrtc configuration.id id
+
+abbrev pub IsOfOfferedProfile : AnswerRules → FormatParameters → Configuration → Type 0
+IsOfOfferedProfile Rfc offered configuration = Unit {0}
+IsOfOfferedProfile Webrtc offered configuration = IsOfOffered offered configuration
+
 -- an answer by what was offered and by what we can do (section 8.2.2). It says nothing but what we say,
 -- nor, unless both ends allow a level for each direction, what the offer doesn't; of what both say
--- nothing is left out, and where both ends allow it nothing of ours. It takes no more than we receive,
--- and allows a level for each direction only where both ends do. What it says of our stream and of us
--- as a receiver is our own
-pub record IsOurAnswer (offered own answer : FormatParameters) : Type 0 where
-  pub ours : (it : Configuration) → Says answer it → Says own it
+-- nothing is left out, and where both ends allow it nothing of ours that is of the offered profile. It
+-- takes no more than we receive, and allows a level for each direction only where both ends do. What it
+-- says of our stream and of us as a receiver is our own
+pub record IsOurAnswer (by : AnswerRules) (offered own answer : FormatParameters) : Type 0 where
+  pub ours : (it : Configuration) → Says by answer it → Says by own it
   pub theirs : (AllowsAsymmetry offered → AllowsAsymmetry own → ⊥) → (it : Configuration) →
-      Says answer it → Says offered it
-  pub greatest : (it : Configuration) → Says offered it → Says own it → Says answer it
+      Says by answer it → Says by offered it
+  pub greatest : (it : Configuration) → Says by offered it → Says by own it → Says by answer it
   pub own_level : AllowsAsymmetry offered → AllowsAsymmetry own → (it : Configuration) →
-      Says own it → Says answer it
-  pub received : (it : Configuration) → Receives answer it → Receives own it
+      IsOfOfferedProfile by offered it → Says by own it → Says by answer it
+  pub received : (it : Configuration) → Receives by answer it → Receives by own it
   pub asymmetry : AllowsAsymmetry answer → AllowsAsymmetry offered × AllowsAsymmetry own
   pub capable : AllByRecursion (SameValue answer own) capabilities
   pub stream : AllByRecursion (IsNoneOrOurs own answer) stream_properties

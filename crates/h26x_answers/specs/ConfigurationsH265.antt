@@ -1,10 +1,13 @@
 -- What formats of H.265 say that each end can send and receive, for unicast, and which answers there
--- are (RFC 7798, sections 7.1 and 7.2.2). Nothing here is said by how an answer is made.
+-- are, by the RFC (RFC 7798, sections 7.1 and 7.2.2) and by WebRTC's peers. Nothing here is said by how
+-- an answer is made.
 use Rattle.std.specs.Prelude.{◌≡◌, ◌⊎◌, ℕ, ◌+◌, ◌-◌, ◌*◌, ◌^◌, List, [], ◌∷◌, map, Option, Some, None, Ok}
 use Rattle.std.specs.Char.{to_ascii_lowercase}
 use Rattle.std.specs.List.{AllByRecursion}
 use Rattle.std.specs.Option.{option_map}
 use Rattle.hex.specs.Hex.{decode_sized}
+use Rattle.h26x_answers.specs.declared.answer.AnswerRules.{AnswerRules}
+use Rattle.h26x_answers.specs.declared.answer.AnswerRules.TheVariants.{Rfc, Webrtc}
 use Rattle.h26x_sdp.specs.declared.h265.H265Parameter.{H265Parameter}
 use Rattle.h26x_sdp.specs.declared.h265.H265Parameter.TheVariants as p
 use Rattle.h26x_fmtp.specs.Reading.{FormatParameters, value_at, value_or_default, number_or_default}
@@ -46,24 +49,36 @@ pub record LeavesFlags (it : FormatParameters) (profile flags : ℕ) : Type 0 wh
   pub absent : value_at it.values (row_place p.ProfileCompatibilityIndicator) ≡ None
   pub is : flags ≡ 2 ^ (31 - profile)
 
--- a configuration is one of an end's, whatever the level
-pub record IsOfEnd (it : FormatParameters) (configuration : Configuration) : Type 0 where
-  pub profile_space : number it p.ProfileSpace ≡ Some configuration.profile_space
-  pub profile : number it p.ProfileId ≡ Some configuration.profile
-  pub tier : number it p.TierFlag ≡ Some configuration.tier
+-- what says more of a profile than its number
+pub record IsConstrained (it : FormatParameters) (configuration : Configuration) : Type 0 where
   pub constraints : option_map (map to_ascii_lowercase) (text it p.InteropConstraints)
       ≡ Some configuration.constraints
   pub compatible : GivesFlags it configuration.compatible
       ⊎ LeavesFlags it configuration.profile configuration.compatible
+
+-- it is configuration (section 7.2.2); WebRTC's peers look at none of it
+abbrev pub IsAsConstrained : AnswerRules → FormatParameters → Configuration → Type 0
+IsAsConstrained Rfc it configuration = IsConstrained it configuration
+IsAsConstrained Webrtc it configuration = Unit {0}
+
+-- a configuration is one of an end's, whatever the level
+pub record IsOfEnd (by : AnswerRules) (it : FormatParameters) (configuration : Configuration) :
+    Type 0 where
+  pub profile_space : number it p.ProfileSpace ≡ Some configuration.profile_space
+  pub profile : number it p.ProfileId ≡ Some configuration.profile
+  pub tier : number it p.TierFlag ≡ Some configuration.tier
+  pub constrained : IsAsConstrained by it configuration
   pub mode : option_map (map to_ascii_lowercase) (text it p.TxMode) ≡ Some configuration.mode
 
 -- what an end says that it sends and receives, and what it says that it can receive
-pub record Says (it : FormatParameters) (configuration : Configuration) : Type 0 where
-  pub one : IsOfEnd it configuration
+pub record Says (by : AnswerRules) (it : FormatParameters) (configuration : Configuration) :
+    Type 0 where
+  pub one : IsOfEnd by it configuration
   pub level : IsWithin rows it (row_place p.LevelId) configuration.level
 
-pub record Receives (it : FormatParameters) (configuration : Configuration) : Type 0 where
-  pub one : IsOfEnd it configuration
+pub record Receives (by : AnswerRules) (it : FormatParameters) (configuration : Configuration) :
+    Type 0 where
+  pub one : IsOfEnd by it configuration
   pub level : IsReceived rows it (row_place p.LevelId) (row_place p.MaxRecvLevelId)
       configuration.level
 
@@ -82,10 +97,10 @@ IsPutInOrder sender receiver = Reorders sender →
 
 -- two ends have a configuration in common: one that both say, and each can put in order what the other
 -- sends
-pub record IsCommon (offered own : FormatParameters) : Type 0 where
+pub record IsCommon (by : AnswerRules) (offered own : FormatParameters) : Type 0 where
   pub configuration : Configuration
-  pub theirs : Says offered configuration
-  pub ours : Says own configuration
+  pub theirs : Says by offered configuration
+  pub ours : Says by own configuration
   pub forth : IsPutInOrder offered own
   pub back : IsPutInOrder own offered
 
@@ -114,13 +129,14 @@ IsNoneOrOurs own answer parameter = (value_at answer.values (row_place parameter
 -- an answer by what was offered and by what we can do: it says just what both say, and receives just
 -- what both receive; it chooses no operation point; what it says of our stream and of us as a receiver
 -- is our own
-pub record IsOurAnswer (offered own answer : FormatParameters) : Type 0 where
-  pub ours : (it : Configuration) → Says answer it → Says own it
-  pub theirs : (it : Configuration) → Says answer it → Says offered it
-  pub greatest : (it : Configuration) → Says offered it → Says own it → Says answer it
-  pub received : (it : Configuration) → Receives answer it → Receives offered it × Receives own it
-  pub greatest_received : (it : Configuration) → Receives offered it → Receives own it →
-      Receives answer it
+pub record IsOurAnswer (by : AnswerRules) (offered own answer : FormatParameters) : Type 0 where
+  pub ours : (it : Configuration) → Says by answer it → Says by own it
+  pub theirs : (it : Configuration) → Says by answer it → Says by offered it
+  pub greatest : (it : Configuration) → Says by offered it → Says by own it → Says by answer it
+  pub received : (it : Configuration) → Receives by answer it →
+      Receives by offered it × Receives by own it
+  pub greatest_received : (it : Configuration) → Receives by offered it → Receives by own it →
+      Receives by answer it
   pub no_choice : value_at answer.values (row_place p.RecvSubLayerId) ≡ None
   pub capable : AllByRecursion (SameValue answer own) capabilities
   pub stream : AllByRecursion (IsNoneOrOurs own answer) stream_properties

@@ -1,7 +1,7 @@
 -- Which levels a format says that an end sends and receives (RFC 7798, section 7.1; RFC 9328, section
 -- 7.2), and what it says of packets that bear decoding order numbers. Nothing here is said by how an
 -- answer is made.
-use Rattle.std.specs.Prelude.{◌≡◌, ◌⊎◌, ℕ, ◌≤◌, ◌<◌, List, Option, Some, None}
+use Rattle.std.specs.Prelude.{◌≡◌, ◌⊎◌, ℕ, ◌≤◌, ◌<◌, List, Some}
 use Rattle.h26x_fmtp.specs.Tables.{ParameterRow}
 use Rattle.h26x_fmtp.specs.Reading.{FormatParameters, number_at, number_or_default}
 

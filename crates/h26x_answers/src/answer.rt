@@ -29,8 +29,9 @@ use std::marker::Model;
 pub enum Role {
     /// Configuration of both directions: the answer has the offer's value, and ours says the same.
     Configuration,
-    /// The same, where another parameter says what it is if it's absent.
-    Inferred,
+    /// The same, which the terms of the codec compare: where another parameter says what it is if it's
+    /// absent, and where not all peers look at it.
+    Compared,
     /// The profile and level, or the level: the answer's depends on both.
     Level,
     /// The highest level that is received, where the answer's depends on both.
@@ -53,15 +54,17 @@ pub enum Role {
 /// agree on.
 pub trait CodecRules: CodecParameter {
     ghost use Rattle.h26x_answers.specs.declared.answer.Role.{Role};
+    ghost use Rattle.h26x_answers.specs.declared.answer.AnswerRules.{AnswerRules};
     ghost use Rattle.h26x_answers.specs.declared.fault.FormatFault.{FormatFault};
 
     ghost roles: { List Role };
 
-    ghost terms: { reading.FormatParameters → reading.FormatParameters → Option spec.Terms };
+    ghost terms: { AnswerRules → reading.FormatParameters → reading.FormatParameters
+        → Option spec.Terms };
 
-    ghost known: { reading.FormatParameters → Bool };
+    ghost known: { AnswerRules → reading.FormatParameters → Bool };
 
-    ghost fault: { reading.FormatParameters → Option FormatFault };
+    ghost fault: { AnswerRules → reading.FormatParameters → Option FormatFault };
 
     ghost reorders: { reading.FormatParameters → Bool };
 
@@ -74,18 +77,19 @@ pub trait CodecRules: CodecParameter {
     /// have none.
     fn terms(
         alloc: Global,
+        rules: AnswerRules,
         offered: &CodecParameters<Self>,
         own: &CodecParameters<Self>,
     ) -> Result<Option<Terms>, AllocError>
-        ensures { IfOk result (λ it. option_map terms_view it ≡ terms offered.now own.now) };
+        ensures { IfOk result (λ it. option_map terms_view it ≡ terms rules offered.now own.now) };
 
     /// Whether a format's profile and level are those of a table.
-    fn is_known(it: &CodecParameters<Self>) -> bool
-        ensures { result ≡ known it.now };
+    fn is_known(rules: AnswerRules, it: &CodecParameters<Self>) -> bool
+        ensures { result ≡ known rules it.now };
 
     /// The first rule of its RFC that a format of one's own breaks, if it breaks one.
-    fn fault(own: &CodecParameters<Self>) -> Option<FormatFault>
-        ensures { result ≡ fault own.now };
+    fn fault(rules: AnswerRules, own: &CodecParameters<Self>) -> Option<FormatFault>
+        ensures { result ≡ fault rules own.now };
 
     /// Whether a format's units may be sent in another order than decoded: `packetization-mode` 2 of
     /// H.264 (RFC 6184, section 6.4), and `sprop-max-don-diff` above 0 of H.265 and H.266 (RFC 7798,
@@ -94,12 +98,28 @@ pub trait CodecRules: CodecParameter {
         ensures { result ≡ reorders it.now };
 }
 
-/// What an answerer can do that no format says, and this payload layer can't.
+/// By which rules formats are read and compared.
+#[derive(Debug, Clone, Copy, PartialEq, Eq, Default)]
+pub enum AnswerRules {
+    /// Those of the RFCs.
+    #[default]
+    Rfc,
+    /// Those, but as WebRTC's peers do it. H.264 without `profile-level-id` is `42e01f`, and not
+    /// `42000a` (libwebrtc, aiortc), so that a format without any parameter is that in
+    /// `packetization-mode` 0; who decodes Baseline or High takes an offer of its constrained profile,
+    /// `42e01f` or `640c1f`, and answers with that. Of H.265 `interop-constraints` and
+    /// `profile-compatibility-indicator` aren't compared (libwebrtc).
+    Webrtc,
+}
+
+/// How an answerer answers, and what it can do that no format says, and this payload layer can't.
 #[derive(Debug, Clone, Copy, PartialEq, Eq, Default)]
 pub struct AnswerConfig {
     /// Whether it takes formats whose units may be sent in another order than decoded: it reads STAP-B,
     /// MTAP and FU-B of H.264, and puts units in order by their decoding order numbers.
     pub any_order: bool,
+    /// By which rules it reads and compares formats: those of the RFCs unless others are asked for.
+    pub rules: AnswerRules,
 }
 
 /// What two formats of one configuration agree on.
@@ -245,7 +265,7 @@ fn answered_value<'a>(
         (value_view offered.now) (value_view own.now) }
 {
     match role {
-        Role::Configuration | Role::Inferred => bytes_of(offered),
+        Role::Configuration | Role::Compared => bytes_of(offered),
         Role::Level => bytes_of(&terms.level),
         Role::HighestLevel => bytes_of(&terms.highest),
         Role::Asymmetry => only_if(terms.asymmetric, own),
@@ -332,11 +352,12 @@ impl<P: CodecParameter> Model for Format<P> {
 /// The parameters of the answer, on terms.
 fn answered<P: CodecRules>(
     alloc: Global,
+    rules: AnswerRules,
     offered: &CodecParameters<P>,
     own: &CodecParameters<P>,
     terms: &Terms,
 ) -> Result<CodecParameters<P>, AllocError>
-    ensures { IfOk result (λ it. it ≡ spec.answered (spec.rules_of P.rows P.roles P.terms
+    ensures { IfOk result (λ it. it ≡ spec.answered (spec.rules_of rules P.rows P.roles P.terms
         P.known P.fault P.reorders) offered.now own.now (terms_view terms.now)) }
 {
     let (o, u) = (offered.parameters(), own.parameters());
@@ -350,11 +371,12 @@ fn answered<P: CodecRules>(
 /// The terms of two formats, if they are of one configuration.
 fn common_terms<P: CodecRules>(
     alloc: Global,
+    rules: AnswerRules,
     offered: &CodecParameters<P>,
     own: &CodecParameters<P>,
 ) -> Result<Option<Terms>, AllocError>
     ensures { IfOk result (λ it. option_map terms_view it ≡ spec.common_terms
-        (spec.rules_of P.rows P.roles P.terms P.known P.fault P.reorders) offered.now own.now) }
+        (spec.rules_of rules P.rows P.roles P.terms P.known P.fault P.reorders) offered.now own.now) }
 {
     if !are_symmetric(
         P::roles(),
@@ -364,20 +386,21 @@ fn common_terms<P: CodecRules>(
     ) {
         return Ok(None);
     }
-    P::terms(alloc, offered, own)
+    P::terms(alloc, rules, offered, own)
 }
 
 /// The answer to an offered format by one of ours.
 fn answer_by<P: CodecRules>(
     alloc: Global,
+    rules: AnswerRules,
     offered: &CodecParameters<P>,
     own: &CodecParameters<P>,
 ) -> Result<Option<CodecParameters<P>>, AllocError>
-    ensures { IfOk result (λ it. it ≡ spec.answer_by (spec.rules_of P.rows P.roles P.terms
+    ensures { IfOk result (λ it. it ≡ spec.answer_by (spec.rules_of rules P.rows P.roles P.terms
         P.known P.fault P.reorders) offered.now own.now) }
 {
-    match common_terms(alloc, offered, own)? {
-        Some(terms) => Ok(Some(answered(alloc, offered, own, &terms)?)),
+    match common_terms(alloc, rules, offered, own)? {
+        Some(terms) => Ok(Some(answered(alloc, rules, offered, own, &terms)?)),
         None => Ok(None),
     }
 }
@@ -389,10 +412,10 @@ pub fn own_fault<P: CodecRules>(
     config: AnswerConfig,
     own: &CodecParameters<P>,
 ) -> Option<FormatFault>
-    ensures { result ≡ spec.own_fault (spec.rules_of P.rows P.roles P.terms P.known P.fault P.reorders)
-        config own.now }
+    ensures { result ≡ spec.own_fault (spec.rules_of config.rules P.rows P.roles P.terms P.known P.fault
+        P.reorders) config own.now }
 {
-    match P::fault(own) {
+    match P::fault(config.rules, own) {
         Some(fault) => Some(fault),
         None if config.any_order || !P::reorders(own) => None,
         None => Some(FormatFault::OutOfOrder),
@@ -407,14 +430,14 @@ fn allowed_answer<P: CodecRules>(
     offered: &CodecParameters<P>,
     own: &CodecParameters<P>,
 ) -> Result<Option<CodecParameters<P>>, AllocError>
-    ensures { IfOk result (λ it. it ≡ spec.allowed_answer (spec.rules_of P.rows P.roles P.terms
-        P.known P.fault P.reorders) config offered.now own.now) }
+    ensures { IfOk result (λ it. it ≡ spec.allowed_answer (spec.rules_of config.rules P.rows P.roles
+        P.terms P.known P.fault P.reorders) config offered.now own.now) }
 {
     let is_ordered = config.any_order || !P::reorders(offered);
-    if !P::is_known(offered) || !is_ordered || own_fault(config, own).is_some() {
+    if !P::is_known(config.rules, offered) || !is_ordered || own_fault(config, own).is_some() {
         return Ok(None);
     }
-    answer_by(alloc, offered, own)
+    answer_by(alloc, config.rules, offered, own)
 }
 
 /// The answer to the parameters of an offered format, by the first of ours that gives one; `None`
@@ -428,8 +451,8 @@ pub fn answer_format<P: CodecRules>(
     offered: &CodecParameters<P>,
     ours: &[CodecParameters<P>],
 ) -> Result<Option<CodecParameters<P>>, AllocError>
-    ensures { IfOk result (λ it. it ≡ spec.answer_of (spec.rules_of P.rows P.roles P.terms
-        P.known P.fault P.reorders) config offered.now ours.now) }
+    ensures { IfOk result (λ it. it ≡ spec.answer_of (spec.rules_of config.rules P.rows P.roles
+        P.terms P.known P.fault P.reorders) config offered.now ours.now) }
 {
     for own in ours {
         if let Some(answer) = allowed_answer(alloc, config, offered, own)? {
@@ -455,8 +478,8 @@ pub fn answer_to<P: CodecRules>(
     offer: &[Format<P>],
     ours: &[CodecParameters<P>],
 ) -> Result<Option<Format<P>>, AllocError>
-    ensures { IfOk result (λ it. it ≡ spec.offer_answer (spec.rules_of P.rows P.roles P.terms
-        P.known P.fault P.reorders) config offer.now ours.now) }
+    ensures { IfOk result (λ it. it ≡ spec.offer_answer (spec.rules_of config.rules P.rows P.roles
+        P.terms P.known P.fault P.reorders) config offer.now ours.now) }
 {
     for format in offer {
         if let Some(parameters) = answer_format(alloc, config, &format.parameters, ours)? {

@@ -3,6 +3,7 @@
 
 ghost use Rattle.std.specs.Prelude.{◌≡◌, None, Some, Ok, true, false, codes, length, map, [], ◌∷◌};
 ghost use Rattle.h26x_answers.specs.Answers.{same_value};
+ghost use Rattle.h26x_answers.specs.declared.answer.AnswerRules.TheVariants as rules;
 ghost use Rattle.h26x_answers.specs.declared.answer.Role.TheVariants as role;
 ghost use Rattle.h26x_answers.specs.AnswersH264 as h264;
 ghost use Rattle.h26x_answers.specs.AnswersH265 as h265;
@@ -27,7 +28,7 @@ pub fn h264_roles()
 pub fn h265_roles()
     ensures count { length h265.roles ≡ 30 }
     ensures each { h265.roles ≡ role.Configuration ∷ role.Configuration ∷ role.Configuration
-        ∷ role.Level ∷ role.Configuration ∷ role.Inferred ∷ role.Own ∷ role.OperationPoint
+        ∷ role.Level ∷ role.Compared ∷ role.Compared ∷ role.Own ∷ role.OperationPoint
         ∷ role.HighestLevel ∷ role.Configuration ∷ role.Sets ∷ role.Sets ∷ role.Sets ∷ role.Own
         ∷ role.Own ∷ role.Own
         ∷ role.Own ∷ role.Own ∷ role.Own ∷ role.Own ∷ role.Own ∷ role.Own ∷ role.Own ∷ role.Own
@@ -96,6 +97,81 @@ pub fn sub_profiles()
       profile_iop = 0xe0;
       level_idc = 31;
     }) ≡ None }
+{}
+
+/// What is said where no `profile-level-id` is: Baseline at level 1 (RFC 6184, section 8.1), and as
+/// WebRTC's peers do it Constrained Baseline at level 3.1 (libwebrtc, `kDefaultProfileLevelId`).
+pub fn unsaid_profiles()
+    ensures rfc { h264.unsaid_id rules.Rfc ≡ Some (codes "42000a") }
+    ensures webrtc { h264.unsaid_id rules.Webrtc ≡ Some (codes "42e01f") }
+{}
+
+/// Which offered profiles an end takes: by the RFC its own alone; as WebRTC's peers do it the
+/// constrained one of its own too, and never one that is wider than its own.
+pub fn taken_profiles()
+    ensures rfc_high { h264.takes_profile rules.Rfc (record {
+      profile_idc = 100;
+      profile_iop = 0x0c;
+      level_idc = 31;
+    }) (record {
+      profile_idc = 100;
+      profile_iop = 0;
+      level_idc = 31;
+    }) ≡ false }
+    ensures high { h264.takes_profile rules.Webrtc (record {
+      profile_idc = 100;
+      profile_iop = 0x0c;
+      level_idc = 31;
+    }) (record {
+      profile_idc = 100;
+      profile_iop = 0;
+      level_idc = 31;
+    }) ≡ true }
+    ensures baseline { h264.takes_profile rules.Webrtc (record {
+      profile_idc = 66;
+      profile_iop = 0xe0;
+      level_idc = 31;
+    }) (record {
+      profile_idc = 66;
+      profile_iop = 0;
+      level_idc = 31;
+    }) ≡ true }
+    ensures wider_high { h264.takes_profile rules.Webrtc (record {
+      profile_idc = 100;
+      profile_iop = 0;
+      level_idc = 31;
+    }) (record {
+      profile_idc = 100;
+      profile_iop = 0x0c;
+      level_idc = 31;
+    }) ≡ false }
+    ensures wider_baseline { h264.takes_profile rules.Webrtc (record {
+      profile_idc = 66;
+      profile_iop = 0;
+      level_idc = 31;
+    }) (record {
+      profile_idc = 66;
+      profile_iop = 0xe0;
+      level_idc = 31;
+    }) ≡ false }
+    ensures main { h264.takes_profile rules.Webrtc (record {
+      profile_idc = 66;
+      profile_iop = 0xe0;
+      level_idc = 31;
+    }) (record {
+      profile_idc = 77;
+      profile_iop = 0;
+      level_idc = 31;
+    }) ≡ false }
+    ensures same { h264.takes_profile rules.Webrtc (record {
+      profile_idc = 66;
+      profile_iop = 0xe0;
+      level_idc = 31;
+    }) (record {
+      profile_idc = 77;
+      profile_iop = 0x80;
+      level_idc = 40;
+    }) ≡ true }
 {}
 
 /// Levels by their order: level 1b stands between 1 and 1.1, by its flag where the profile has one and
@@ -176,6 +252,23 @@ pub fn flags()
     ensures absent { h265.flags_or_profile (Some 1) None ≡ Some 0x40000000 }
     ensures given { h265.four_bytes (Ok (0x60 ∷ 0x00 ∷ 0x00 ∷ 0x00 ∷ [])) ≡ Some 0x60000000 }
     ensures each_byte { h265.four_bytes (Ok (0x01 ∷ 0x02 ∷ 0x03 ∷ 0x04 ∷ [])) ≡ Some 0x01020304 }
+{}
+
+/// Formats of one profile that are its constraints apart: what x265 says of them against what isn't
+/// said, by the RFC and as WebRTC's peers do it.
+pub fn agreed_constraints()
+    ensures rfc { h265.agree rules.Rfc (record { values = []; others = [] }) (record {
+      values = None ∷ None ∷ None ∷ None ∷ Some (codes "900000000000") ∷ [];
+      others = [];
+    }) ≡ false }
+    ensures webrtc { h265.agree rules.Webrtc (record { values = []; others = [] }) (record {
+      values = None ∷ None ∷ None ∷ None ∷ Some (codes "900000000000") ∷ [];
+      others = [];
+    }) ≡ true }
+    ensures unsaid { h265.agree rules.Rfc (record { values = []; others = [] }) (record {
+      values = None ∷ None ∷ None ∷ None ∷ Some (codes "b00000000000") ∷ [];
+      others = [];
+    }) ≡ true }
 {}
 
 /// Values that are one: numbers with zeros before them, digits and modes in either case; texts in one.

@@ -3,6 +3,7 @@
 ghost use Rattle.std.specs.Prelude.{◌≡◌, true, false};
 ghost use Rattle.h26x_fmtp.specs.Parameters.{AreParameters, IsReadAgain};
 ghost use Rattle.h26x_fmtp.specs.Reading.{FormatParameters};
+ghost use Rattle.h26x_answers.specs.declared.answer.AnswerRules.{AnswerRules};
 ghost use Rattle.h26x_answers.specs.AnswerLaws.{IsCommonAnswered, IsAnswerCommon, OfEachAnswer, SaysOrder};
 ghost use Rattle.h26x_answers.specs.AnswersH264 as h264_answers;
 ghost use Rattle.h26x_answers.specs.AllowedH264.{IsH264Answer, MaySend, CanDeinterleaveOwn, is_sets_row};
@@ -19,14 +20,18 @@ ghost use Rattle.h26x_sdp.specs.H265Rows as h265;
 ghost use Rattle.h26x_sdp.specs.H266Rows as h266;
 
 /// An offer has an answer exactly where one of its formats and one of ours have a configuration in
-/// common, by what both say (RFC 6184, section 8.2.2; RFC 7798, section 7.2.2; RFC 9328, section
-/// 7.3.2), in an order of units that the answerer takes; each answer is of such a pair, and keeps the
-/// payload type.
+/// common, by what both say, by the RFCs (RFC 6184, section 8.2.2; RFC 7798, section 7.2.2; RFC 9328,
+/// section 7.3.2) and as WebRTC's peers do it, in an order of units that the answerer takes; each
+/// answer is of such a pair, and keeps the payload type.
 pub fn whom_both_understand_is_found()
-    ensures h264_found { IsCommonAnswered h264_answers.rules h264_said.IsCommon }
-    ensures h264_none { IsAnswerCommon h264_answers.rules h264_said.IsCommon }
-    ensures h265_found { IsCommonAnswered h265_answers.rules h265_said.IsCommon }
-    ensures h265_none { IsAnswerCommon h265_answers.rules h265_said.IsCommon }
+    ensures h264_found { (by : AnswerRules) →
+        IsCommonAnswered (h264_answers.rules by) (h264_said.IsCommon by) }
+    ensures h264_none { (by : AnswerRules) →
+        IsAnswerCommon (h264_answers.rules by) (h264_said.IsCommon by) }
+    ensures h265_found { (by : AnswerRules) →
+        IsCommonAnswered (h265_answers.rules by) (h265_said.IsCommon by) }
+    ensures h265_none { (by : AnswerRules) →
+        IsAnswerCommon (h265_answers.rules by) (h265_said.IsCommon by) }
     ensures h266_found { IsCommonAnswered h266_answers.rules h266_said.IsCommon }
     ensures h266_none { IsAnswerCommon h266_answers.rules h266_said.IsCommon }
 {}
@@ -34,42 +39,44 @@ pub fn whom_both_understand_is_found()
 /// Which formats' units may be sent in another order than decoded (RFC 6184, section 6.4; RFC 7798,
 /// section 7.1; RFC 9328, section 7.2).
 pub fn formats_say_their_order()
-    ensures h264 { SaysOrder h264_answers.rules h264_said.Reorders }
-    ensures h265 { SaysOrder h265_answers.rules h265_said.Reorders }
+    ensures h264 { (by : AnswerRules) → SaysOrder (h264_answers.rules by) h264_said.Reorders }
+    ensures h265 { (by : AnswerRules) → SaysOrder (h265_answers.rules by) h265_said.Reorders }
     ensures h266 { SaysOrder h266_answers.rules h266_said.Reorders }
 {}
 
 /// An answer says what the offer says and what we can do, the most of it; what it says of our stream
 /// and of us as a receiver is our own.
 pub fn answers_are_by_offer_and_ours()
-    ensures h264 { OfEachAnswer h264_answers.rules h264_said.IsOurAnswer }
-    ensures h265 { OfEachAnswer h265_answers.rules h265_said.IsOurAnswer }
+    ensures h264 { (by : AnswerRules) →
+        OfEachAnswer (h264_answers.rules by) (h264_said.IsOurAnswer by) }
+    ensures h265 { (by : AnswerRules) →
+        OfEachAnswer (h265_answers.rules by) (h265_said.IsOurAnswer by) }
     ensures h266 { OfEachAnswer h266_answers.rules h266_said.IsOurAnswer }
 {}
 
 /// An answer of H.264 is one that RFC 6184, section 8.2.2, allows of the offered format, and of an
 /// allowed answer what each end sends is what the other said that it receives.
 pub fn h264_answers_are_allowed()
-    ensures allowed { OfEachAnswer h264_answers.rules
-        (λ offered own answer. IsH264Answer offered answer) }
-    ensures forth { (offered answer : FormatParameters) (it : IsH264Answer offered answer) →
-        MaySend offered answer it.theirs it.ours }
-    ensures back { (offered answer : FormatParameters) (it : IsH264Answer offered answer) →
-        MaySend answer offered it.ours it.theirs }
+    ensures allowed { (by : AnswerRules) → OfEachAnswer (h264_answers.rules by)
+        (λ offered own answer. IsH264Answer by offered answer) }
+    ensures forth { (by : AnswerRules) (offered answer : FormatParameters)
+        (it : IsH264Answer by offered answer) → MaySend offered answer it.theirs it.ours }
+    ensures back { (by : AnswerRules) (offered answer : FormatParameters)
+        (it : IsH264Answer by offered answer) → MaySend answer offered it.ours it.theirs }
 {}
 
 /// An answer of H.264 is parameters of H.264, and once it's written it is read as the same.
 pub fn h264_answers_are_read()
-    ensures parameters { OfEachAnswer h264_answers.rules
+    ensures parameters { (by : AnswerRules) → OfEachAnswer (h264_answers.rules by)
         (λ offered own answer. AreParameters h264.rows answer) }
-    ensures read { OfEachAnswer h264_answers.rules
+    ensures read { (by : AnswerRules) → OfEachAnswer (h264_answers.rules by)
         (λ offered own answer. IsReadAgain h264.rows answer) }
 {}
 
 /// An answer of H.264 is answered with itself, but for parameter sets, which depend on what the other
 /// end says of them; in interleaved mode where we could put in order what we send.
 pub fn h264_answers_are_answered_with_themselves()
-    ensures { AreAnsweredAgain h264_answers.rules is_sets_row
+    ensures { (by : AnswerRules) → AreAnsweredAgain (h264_answers.rules by) is_sets_row
         (λ own answer. CanDeinterleaveOwn own answer) }
 {}
 
@@ -77,8 +84,9 @@ pub fn h264_answers_are_answered_with_themselves()
 /// H.266 one that RFC 9328, section 7.3.2, allows; and of an allowed answer what each end sends is what
 /// the other said that it receives.
 pub fn answers_by_level_are_allowed()
-    ensures h265 { OfEachAnswer h265_answers.rules
-        (λ offered _ answer. IsAnswerByLevel h265_answers.rules h265_answers.by offered answer) }
+    ensures h265 { (by : AnswerRules) → OfEachAnswer (h265_answers.rules by)
+        (λ offered _ answer. IsAnswerByLevel (h265_answers.rules by) h265_answers.by offered
+        answer) }
     ensures h266 { OfEachAnswer h266_answers.rules
         (λ offered _ answer. IsAnswerByLevel h266_answers.rules h266_answers.by offered answer) }
     ensures forth { OfEachAllowed (λ rules by offered answer it.
@@ -90,7 +98,7 @@ pub fn answers_by_level_are_allowed()
 /// An answer of H.265 or of H.266 is parameters of that codec, and once it's written it is read as the
 /// same.
 pub fn answers_by_level_are_read()
-    ensures h265 { OfEachAnswer h265_answers.rules
+    ensures h265 { (by : AnswerRules) → OfEachAnswer (h265_answers.rules by)
         (λ offered own answer. IsReadAgain h265.rows answer) }
     ensures h266 { OfEachAnswer h266_answers.rules
         (λ offered own answer. IsReadAgain h266.rows answer) }
@@ -98,7 +106,7 @@ pub fn answers_by_level_are_read()
 
 /// An answer of H.265 or of H.266 is answered with itself, where we could put in order what we send.
 pub fn answers_by_level_are_answered_with_themselves()
-    ensures h265 { AreAnsweredAgain h265_answers.rules (λ _. false)
+    ensures h265 { (by : AnswerRules) → AreAnsweredAgain (h265_answers.rules by) (λ _. false)
         (λ own _. can_hold h265.rows h265_answers.by own own ≡ true) }
     ensures h266 { AreAnsweredAgain h266_answers.rules (λ _. false)
         (λ own _. can_hold h266.rows h266_answers.by own own ≡ true) }

@@ -10,6 +10,6 @@ mod fault;
 pub mod laws;
 
 pub use answer::{
-    AnswerConfig, CodecRules, Format, Role, Terms, answer_format, answer_to, own_fault,
+    AnswerConfig, AnswerRules, CodecRules, Format, Role, Terms, answer_format, answer_to, own_fault,
 };
 pub use fault::FormatFault;

@@ -95,9 +95,11 @@ answer_or_code rules config offered ours =
 -- the same by their codec: of two codecs there is none
 abbrev pub sdp_answer : AnswerConfig → SdpEndpoint → SdpEndpoint → Result SdpEndpoint ℕ
 sdp_answer config (s.H264 offered) (s.H264 ours) =
-    result_map_both s.H264 (λ code. code) (answer_or_code h264_answers.rules config offered ours)
+    result_map_both s.H264 (λ code. code)
+    (answer_or_code (h264_answers.rules config.rules) config offered ours)
 sdp_answer config (s.H265 offered) (s.H265 ours) =
-    result_map_both s.H265 (λ code. code) (answer_or_code h265_answers.rules config offered ours)
+    result_map_both s.H265 (λ code. code)
+    (answer_or_code (h265_answers.rules config.rules) config offered ours)
 sdp_answer config (s.H266 offered) (s.H266 ours) =
     result_map_both s.H266 (λ code. code) (answer_or_code h266_answers.rules config offered ours)
 sdp_answer config offered ours = Err no_answer

@@ -90,7 +90,8 @@ fn answer_of<P: ListedParameter>(
     ours: &KeptParameters<P>,
 ) -> Result<KeptParameters<P>, u32>
     ensures { spec.IsOrOutOfMemory result (spec.answer_or_code
-        (rules_of P.rows P.roles P.terms P.known P.fault P.reorders) config offered.now ours.now) }
+        (rules_of config.rules P.rows P.roles P.terms P.known P.fault P.reorders) config offered.now
+        ours.now) }
 {
     match answer_format(
         alloc,

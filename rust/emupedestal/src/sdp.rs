@@ -56,7 +56,7 @@ pub use crate::proved::h26x_sdp::{
 };
 pub use crate::proved::h26x_sdp::{ConstraintsError, LevelSetsError, RtxError};
 pub use crate::proved::h26x_stream_parameters::{StreamError, fits_single_units};
-pub use answer::{Format, OutOfMemory};
+pub use answer::{AnswerConfig, AnswerRules, Format, OutOfMemory};
 pub use fault::{BrokenRule, SetError};
 pub use h264::H264Parameters;
 pub use h265::H265Parameters;

@@ -1,13 +1,16 @@
 //! Answers to offers of H.264 (RFC 6184, section 8.2.2).
 
 ghost use Rattle.std.specs.Prelude.{◌≡◌, IfOk};
-ghost use Rattle.std.specs.Option.{option_map, option_map_or};
+ghost use Rattle.std.specs.Option.{option_map, option_or};
 ghost use Rattle.h26x_profile.specs.H264 as table;
+ghost use Rattle.h26x_fmtp.specs.Reading.{value_at};
+ghost use Rattle.h26x_sdp.specs.H264Rows.{row_place};
+ghost use Rattle.h26x_sdp.specs.declared.h264.H264Parameter.TheVariants as parameter;
 ghost use Rattle.h26x_answers.specs.AnswersH264 as spec;
 ghost use Rattle.h26x_answers.specs.AnswersViews.{terms_view};
-ghost use Rattle.h26x_fmtp.specs.ParametersViews.{value_view};
+ghost use Rattle.h26x_fmtp.specs.ParametersViews.{value_view, slice_view};
 
-use crate::answer::{CodecRules, Role, Terms, copy_of, holds, own_h264, same_number};
+use crate::answer::{AnswerRules, CodecRules, Role, Terms, copy_of, holds, own_h264, same_number};
 use crate::fault::FormatFault;
 use h26x_profile::{H264LevelIdc, H264Profile, H264ProfileIdc, H264ProfileLevel};
 use h26x_sdp::{H264Parameter, H264Parameters};
@@ -133,6 +136,15 @@ impl ProfileLevelId {
             || same_sub_profile(self.sub_profile(), other.sub_profile())
     }
 
+    /// Whether an end of a profile takes this one, which is offered.
+    fn is_taken(self, rules: AnswerRules, own: Self) -> bool
+        ensures { result ≡ spec.takes_profile rules self own }
+    {
+        self.same_profile(own)
+            || (rules == AnswerRules::Webrtc
+                && constrained_sub_profile(self.sub_profile(), own.sub_profile()))
+    }
+
     /// The same profile at the level of another.
     fn at_level_of(self, other: Self) -> Self
         ensures { result ≡ spec.at_level_of self other }
@@ -175,6 +187,27 @@ fn same_sub_profile(a: Option<H264Profile>, b: Option<H264Profile>) -> bool
     }
 }
 
+/// Whether two sub-profiles are known, and the first is the constrained one of the second.
+fn constrained_sub_profile(a: Option<H264Profile>, b: Option<H264Profile>) -> bool
+    ensures { result ≡ spec.constrained_sub_profile a b }
+{
+    match (a, b) {
+        (Some(a), Some(b)) => is_constrained_of(a, b),
+        _ => false,
+    }
+}
+
+/// Whether a profile is the constrained one of another.
+fn is_constrained_of(a: H264Profile, b: H264Profile) -> bool
+    ensures { result ≡ spec.is_constrained_of a b }
+{
+    match a {
+        H264Profile::ConstrainedBaseline => matches!(b, H264Profile::Baseline),
+        H264Profile::ConstrainedHigh => matches!(b, H264Profile::High),
+        _ => false,
+    }
+}
+
 /// The level that the two bytes of a `max-recv-level` say, as `level_rank`.
 pub(crate) fn recv_rank(text: &[u8]) -> u16
     ensures { result ≡ spec.recv_rank text.now }
@@ -203,11 +236,25 @@ fn is_on(it: &H264Parameters, parameter: H264Parameter) -> bool
     same_number(it.number_or_default(parameter), Some(1))
 }
 
-/// The `profile-level-id` of parameters, or its default.
-pub(crate) fn id_of(it: &H264Parameters) -> Option<ProfileLevelId>
-    ensures { result ≡ spec.id_of it.now }
+/// The text of a `profile-level-id`, or what is said where there is none.
+fn id_text(rules: AnswerRules, it: &H264Parameters) -> Option<&[u8]>
+    ensures { slice_view result ≡ option_or (value_at it.now.values
+        (row_place parameter.ProfileLevelId)) (spec.unsaid_id rules) }
 {
-    ProfileLevelId::read(it.value_or_default(H264Parameter::ProfileLevelId)?)
+    match rules {
+        AnswerRules::Rfc => it.value_or_default(H264Parameter::ProfileLevelId),
+        AnswerRules::Webrtc => match it.value(H264Parameter::ProfileLevelId) {
+            Some(text) => Some(text),
+            None => Some(b"42e01f"),
+        },
+    }
+}
+
+/// The bytes of a `profile-level-id`, or those that are said where there is none.
+pub(crate) fn id_of(rules: AnswerRules, it: &H264Parameters) -> Option<ProfileLevelId>
+    ensures { result ≡ spec.id_of rules it.now }
+{
+    ProfileLevelId::read(id_text(rules, it)?)
 }
 
 /// The highest level that an end receives, as `level_rank`.
@@ -338,15 +385,17 @@ fn terms_at(
 /// The terms of two formats of one packetization mode, if they have some.
 fn terms(
     alloc: Global,
+    rules: AnswerRules,
     offered: &H264Parameters,
     own: &H264Parameters,
 ) -> Result<Option<Terms>, AllocError>
-    ensures { IfOk result (λ it. option_map terms_view it ≡ spec.terms offered.now own.now) }
+    ensures { IfOk result (λ it. option_map terms_view it
+        ≡ spec.terms rules offered.now own.now) }
 {
-    let (Some(a), Some(b)) = (id_of(offered), id_of(own)) else {
+    let (Some(a), Some(b)) = (id_of(rules, offered), id_of(rules, own)) else {
         return Ok(None);
     };
-    if !(a.same_profile(b) && can_order(offered, own)) {
+    if !(a.is_taken(rules, b) && can_order(offered, own)) {
         return Ok(None);
     }
     Ok(Some(terms_at(alloc, offered, both_asymmetric(offered, own), a, b)?))
@@ -371,18 +420,19 @@ impl CodecRules for H264Parameter {
 
     fn terms(
         alloc: Global,
+        rules: AnswerRules,
         offered: &H264Parameters,
         own: &H264Parameters,
     ) -> Result<Option<Terms>, AllocError> {
-        terms(alloc, offered, own)
+        terms(alloc, rules, offered, own)
     }
 
-    fn is_known(it: &H264Parameters) -> bool {
-        own_h264::is_known(it)
+    fn is_known(rules: AnswerRules, it: &H264Parameters) -> bool {
+        own_h264::is_known(rules, it)
     }
 
-    fn fault(own: &H264Parameters) -> Option<FormatFault> {
-        own_h264::fault(own)
+    fn fault(rules: AnswerRules, own: &H264Parameters) -> Option<FormatFault> {
+        own_h264::fault(rules, own)
     }
 
     fn reorders(it: &H264Parameters) -> bool {

@@ -7,8 +7,9 @@ ghost use Rattle.h26x_answers.specs.AnswersH265 as spec;
 ghost use Rattle.h26x_answers.specs.AnswersViews.{terms_view};
 
 use crate::answer::by_level::{LevelParameters, is_positive, terms_by_level};
-use crate::answer::{CodecRules, Role, Terms, own_h265, same_number};
+use crate::answer::{AnswerRules, CodecRules, Role, Terms, own_h265, same_if_given, same_number};
 use crate::fault::FormatFault;
+use h26x_fmtp::Kind;
 use h26x_sdp::{H265Parameter, H265Parameters};
 use hex::FromHex;
 use std::alloc::{AllocError, Global};
@@ -22,8 +23,8 @@ static ROLES: [Role; 30] = [
     // level-id
     Role::Level,
     // interop-constraints and profile-compatibility-indicator
-    Role::Configuration,
-    Role::Inferred,
+    Role::Compared,
+    Role::Compared,
     // sprop-sub-layer-id and recv-sub-layer-id
     Role::Own,
     Role::OperationPoint,
@@ -95,15 +96,41 @@ fn flag_of(profile: Option<u64>) -> Option<u64>
     }
 }
 
-/// The terms of two formats of one configuration, if they have the same flags.
+/// Whether two formats have the same constraints.
+fn same_constraints(offered: &H265Parameters, own: &H265Parameters) -> bool
+    ensures { result ≡ spec.same_constraints offered.now own.now }
+{
+    same_if_given(
+        Kind::Hexadecimal { bytes: 6 },
+        offered.value_or_default(H265Parameter::InteropConstraints),
+        own.value_or_default(H265Parameter::InteropConstraints),
+    )
+}
+
+/// Whether two formats are of one profile beside its number.
+fn agree(rules: AnswerRules, offered: &H265Parameters, own: &H265Parameters) -> bool
+    ensures { result ≡ spec.agree rules offered.now own.now }
+{
+    match rules {
+        AnswerRules::Rfc => {
+            same_constraints(offered, own)
+                && same_number(compatible_profiles(offered), compatible_profiles(own))
+        }
+        AnswerRules::Webrtc => true,
+    }
+}
+
+/// The terms of two formats of one configuration.
 fn terms(
     alloc: Global,
+    rules: AnswerRules,
     offered: &H265Parameters,
     own: &H265Parameters,
 ) -> Result<Option<Terms>, AllocError>
-    ensures { IfOk result (λ it. option_map terms_view it ≡ spec.terms offered.now own.now) }
+    ensures { IfOk result (λ it. option_map terms_view it
+        ≡ spec.terms rules offered.now own.now) }
 {
-    if !same_number(compatible_profiles(offered), compatible_profiles(own)) {
+    if !agree(rules, offered, own) {
         return Ok(None);
     }
     terms_by_level(alloc, &BY, offered, own)
@@ -117,9 +144,9 @@ impl CodecRules for H265Parameter {
 
     ghost terms = { spec.terms };
 
-    ghost known = { own.known };
+    ghost known = { λ _. own.known };
 
-    ghost fault = { own.fault };
+    ghost fault = { λ _. own.fault };
 
     ghost reorders = { spec.reorders };
 
@@ -129,17 +156,18 @@ impl CodecRules for H265Parameter {
 
     fn terms(
         alloc: Global,
+        rules: AnswerRules,
         offered: &H265Parameters,
         own: &H265Parameters,
     ) -> Result<Option<Terms>, AllocError> {
-        terms(alloc, offered, own)
+        terms(alloc, rules, offered, own)
     }
 
-    fn is_known(it: &H265Parameters) -> bool {
+    fn is_known(_rules: AnswerRules, it: &H265Parameters) -> bool {
         own_h265::is_known(it)
     }
 
-    fn fault(own: &H265Parameters) -> Option<FormatFault> {
+    fn fault(_rules: AnswerRules, own: &H265Parameters) -> Option<FormatFault> {
         own_h265::fault(own)
     }
 

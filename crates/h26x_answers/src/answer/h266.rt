@@ -6,7 +6,7 @@ ghost use Rattle.h26x_answers.specs.AnswersH266 as spec;
 ghost use Rattle.h26x_answers.specs.AnswersViews.{terms_view};
 
 use crate::answer::by_level::{LevelParameters, is_positive, terms_by_level};
-use crate::answer::{CodecRules, Role, Terms, own_h266, same_if_given, same_number};
+use crate::answer::{AnswerRules, CodecRules, Role, Terms, own_h266, same_if_given, same_number};
 use crate::fault::FormatFault;
 use h26x_fmtp::Kind;
 use h26x_fmtp::unit_types::H266_VPS;
@@ -102,11 +102,11 @@ impl CodecRules for H266Parameter {
 
     ghost roles = { spec.roles };
 
-    ghost terms = { spec.terms };
+    ghost terms = { λ _. spec.terms };
 
-    ghost known = { own.known };
+    ghost known = { λ _. own.known };
 
-    ghost fault = { own.fault };
+    ghost fault = { λ _. own.fault };
 
     ghost reorders = { spec.reorders };
 
@@ -116,17 +116,18 @@ impl CodecRules for H266Parameter {
 
     fn terms(
         alloc: Global,
+        _rules: AnswerRules,
         offered: &H266Parameters,
         own: &H266Parameters,
     ) -> Result<Option<Terms>, AllocError> {
         terms(alloc, offered, own)
     }
 
-    fn is_known(it: &H266Parameters) -> bool {
+    fn is_known(_rules: AnswerRules, it: &H266Parameters) -> bool {
         own_h266::is_known(it)
     }
 
-    fn fault(own: &H266Parameters) -> Option<FormatFault> {
+    fn fault(_rules: AnswerRules, own: &H266Parameters) -> Option<FormatFault> {
         own_h266::fault(own)
     }
 

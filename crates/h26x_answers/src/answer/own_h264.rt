@@ -3,6 +3,7 @@
 ghost use Rattle.std.specs.Prelude.{◌≡◌};
 ghost use Rattle.h26x_answers.specs.AnswersH264 as spec;
 
+use crate::answer::AnswerRules;
 use crate::answer::h264::{ProfileLevelId, id_of, is_interleaved, recv_rank};
 use crate::fault::{FormatFault, fault_below};
 use h26x_sdp::{H264Parameter, H264Parameters};
@@ -136,20 +137,20 @@ fn is_level(id: ProfileLevelId) -> bool
 }
 
 /// Whether a format's level is one of the standard's.
-pub(crate) fn is_known(it: &H264Parameters) -> bool
-    ensures { result ≡ spec.known it.now }
+pub(crate) fn is_known(rules: AnswerRules, it: &H264Parameters) -> bool
+    ensures { result ≡ spec.known rules it.now }
 {
-    match id_of(it) {
+    match id_of(rules, it) {
         Some(id) => is_level(id),
         None => false,
     }
 }
 
 /// The first rule that a format of one's own breaks.
-pub(crate) fn fault(it: &H264Parameters) -> Option<FormatFault>
-    ensures { result ≡ spec.fault it.now }
+pub(crate) fn fault(rules: AnswerRules, it: &H264Parameters) -> Option<FormatFault>
+    ensures { result ≡ spec.fault rules it.now }
 {
-    match id_of(it) {
+    match id_of(rules, it) {
         Some(id) if is_level(id) => fault_received(it, id.level_rank()),
         _ => Some(FormatFault::Level),
     }

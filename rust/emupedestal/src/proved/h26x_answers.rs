@@ -7,6 +7,6 @@
 mod answer;
 mod fault;
 
-pub use answer::{AnswerConfig, CodecRules, Format, Role, Terms, own_fault};
+pub use answer::{AnswerConfig, AnswerRules, CodecRules, Format, Role, Terms, own_fault};
 pub(crate) use answer::{answer_format, answer_to};
 pub use fault::FormatFault;

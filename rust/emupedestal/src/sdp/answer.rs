@@ -1,11 +1,13 @@
 //! Answers to offers.
 
 use super::{BrokenRule, CodecParameters, Parameter};
-use crate::proved::h26x_answers::{AnswerConfig, FormatFault, answer_format, own_fault};
+use crate::proved::h26x_answers::{FormatFault, answer_format, own_fault};
 use crate::support::AllocError;
 use core::error::Error;
 use core::fmt;
 use core::slice;
+
+pub use crate::proved::h26x_answers::{AnswerConfig, AnswerRules};
 
 /// There was no memory. Nothing has changed.
 #[derive(Debug, Clone, Copy, PartialEq, Eq, Hash)]
@@ -24,6 +26,12 @@ impl From<AllocError> for OutOfMemory {
         OutOfMemory
     }
 }
+
+/// An end that takes units in any order.
+const ANY_ORDER: AnswerConfig = AnswerConfig {
+    any_order: true,
+    rules: AnswerRules::Rfc,
+};
 
 /// A payload type and the parameters of its format, as an offer has several of them.
 #[derive(Debug, Clone, PartialEq, Eq, Hash)]
@@ -59,7 +67,7 @@ impl<P: Parameter> CodecParameters<P> {
     ///
     /// Where memory lacks.
     pub fn answer(&self, ours: &[Self]) -> Result<Option<Self>, OutOfMemory> {
-        self.answer_by(AnswerConfig::default(), ours)
+        self.answer_with(AnswerConfig::default(), ours)
     }
 
     /// The same by an end that takes units in any order: one that reads STAP-B, MTAP and FU-B of H.264, which this crate
@@ -78,10 +86,31 @@ impl<P: Parameter> CodecParameters<P> {
     ///
     /// Where memory lacks.
     pub fn answer_any_order(&self, ours: &[Self]) -> Result<Option<Self>, OutOfMemory> {
-        self.answer_by(AnswerConfig { any_order: true }, ours)
+        self.answer_with(ANY_ORDER, ours)
     }
 
-    fn answer_by(&self, config: AnswerConfig, ours: &[Self]) -> Result<Option<Self>, OutOfMemory> {
+    /// The same of an end that answers by a configuration: by the rules of the RFCs or as WebRTC's peers do it, of units
+    /// in decoding order or in any.
+    ///
+    /// ```
+    /// use emupedestal::sdp::{AnswerConfig, AnswerRules, H264Parameters};
+    ///
+    /// let safari: H264Parameters = "packetization-mode=1;profile-level-id=640c1f".parse()?;
+    /// let ours: [H264Parameters; 1] = ["packetization-mode=1;profile-level-id=64001f".parse()?];
+    /// let webrtc = AnswerConfig { rules: AnswerRules::Webrtc, ..AnswerConfig::default() };
+    /// assert!(safari.answer(&ours)?.is_none());
+    /// assert_eq!(safari.answer_with(webrtc, &ours)?, Some(safari));
+    /// # Ok::<(), Box<dyn std::error::Error>>(())
+    /// ```
+    ///
+    /// # Errors
+    ///
+    /// Where memory lacks.
+    pub fn answer_with(
+        &self,
+        config: AnswerConfig,
+        ours: &[Self],
+    ) -> Result<Option<Self>, OutOfMemory> {
         for own in ours {
             if let Some(of) = answer_format(config, &self.of, slice::from_ref(&own.of))? {
                 return Ok(Some(CodecParameters { of }));
@@ -101,7 +130,12 @@ impl<P: Parameter> CodecParameters<P> {
     /// # Ok::<(), emupedestal::sdp::ParametersError>(())
     /// ```
     pub fn broken_rule(&self) -> Option<BrokenRule<P>> {
-        Some(match own_fault(AnswerConfig::default(), &self.of)? {
+        self.broken_rule_with(AnswerConfig::default())
+    }
+
+    /// The same of an end that answers by a configuration.
+    pub fn broken_rule_with(&self, config: AnswerConfig) -> Option<BrokenRule<P>> {
+        Some(match own_fault(config, &self.of)? {
             FormatFault::Profile => BrokenRule::Profile,
             FormatFault::Level => BrokenRule::Level,
             FormatFault::HighestLevel => BrokenRule::HighestLevel,
@@ -140,7 +174,7 @@ impl<P: Parameter> Format<P> {
         offer: &[Self],
         ours: &[CodecParameters<P>],
     ) -> Result<Option<Self>, OutOfMemory> {
-        Self::answer_by(AnswerConfig::default(), offer, ours)
+        Self::answer_to_with(AnswerConfig::default(), offer, ours)
     }
 
     /// The same by an end that takes units in any order, as [`CodecParameters::answer_any_order`].
@@ -152,16 +186,21 @@ impl<P: Parameter> Format<P> {
         offer: &[Self],
         ours: &[CodecParameters<P>],
     ) -> Result<Option<Self>, OutOfMemory> {
-        Self::answer_by(AnswerConfig { any_order: true }, offer, ours)
+        Self::answer_to_with(ANY_ORDER, offer, ours)
     }
 
-    fn answer_by(
+    /// The same of an end that answers by a configuration, as [`CodecParameters::answer_with`].
+    ///
+    /// # Errors
+    ///
+    /// Where memory lacks.
+    pub fn answer_to_with(
         config: AnswerConfig,
         offer: &[Self],
         ours: &[CodecParameters<P>],
     ) -> Result<Option<Self>, OutOfMemory> {
         for offered in offer {
-            if let Some(parameters) = offered.parameters.answer_by(config, ours)? {
+            if let Some(parameters) = offered.parameters.answer_with(config, ours)? {
                 let payload_type = offered.payload_type;
                 return Ok(Some(Format {
                     payload_type,

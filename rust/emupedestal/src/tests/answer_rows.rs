@@ -2,7 +2,8 @@
 //! walk too.
 
 use crate::sdp::{
-    BrokenRule, CodecParameters, H264Parameter, H265Parameter, H266Parameter, Parameter,
+    AnswerConfig, AnswerRules, BrokenRule, CodecParameters, H264Parameter, H265Parameter,
+    H266Parameter, Parameter,
 };
 
 const TEXT: &str = include_str!(concat!(
@@ -10,11 +11,20 @@ const TEXT: &str = include_str!(concat!(
     "/../../bindings/streams/answers.txt"
 ));
 
-/// The answer to an offer by one of ours, and that of an end that takes units in any order, as the text has them.
-fn answered<P: Parameter>(offer: &str, ours: &str) -> [String; 2] {
+/// The answer to an offer by one of ours, that of an end that takes units in any order, and that as WebRTC's peers do it,
+/// as the text has them.
+fn answered<P: Parameter>(offer: &str, ours: &str) -> [String; 3] {
     let offered: CodecParameters<P> = offer.parse().expect(offer);
     let ours = [ours.parse().expect(ours)];
-    let answers = [offered.answer(&ours), offered.answer_any_order(&ours)];
+    let webrtc = AnswerConfig {
+        rules: AnswerRules::Webrtc,
+        ..AnswerConfig::default()
+    };
+    let answers = [
+        offered.answer(&ours),
+        offered.answer_any_order(&ours),
+        offered.answer_with(webrtc, &ours),
+    ];
     answers.map(|answer| match answer.expect("memory") {
         Some(answer) => answer.to_string(),
         None => "-".into(),
@@ -31,13 +41,14 @@ fn answers_of_the_text() {
             panic!("{row}");
         };
         let any_order = columns.get(4).copied().unwrap_or(wanted);
+        let webrtc = columns.get(5).copied().unwrap_or(wanted);
         let answer = match codec {
             "h264" => answered::<H264Parameter>(offer, ours),
             "h265" => answered::<H265Parameter>(offer, ours),
             "h266" => answered::<H266Parameter>(offer, ours),
             _ => panic!("{row}"),
         };
-        assert_eq!(answer, [wanted, any_order], "{row}");
+        assert_eq!(answer, [wanted, any_order, webrtc], "{row}");
         count += 1;
     }
     assert!(count > 40, "{count} rows");

@@ -3,6 +3,6 @@ use Rattle.h26x_answers.proofs.laws.answers_by_level_are_answered_with_themselve
 
 pub returns : goal.returns
 returns c = record {
-  h265 = λ offered own answer of_offered of_own h holds. h265_again offered own answer of_offered of_own holds h;
+  h265 = λ by offered own answer of_offered of_own h holds. h265_again by offered own answer of_offered of_own holds h;
   h266 = λ offered own answer of_offered of_own h holds. h266_again offered own answer of_offered of_own holds h;
 }

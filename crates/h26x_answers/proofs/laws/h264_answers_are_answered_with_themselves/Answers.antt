@@ -2,4 +2,4 @@ use Rattle.h26x_answers.proofs.KeptH264Lemmas.{again}
 use Rattle.h26x_answers.proofs.laws.h264_answers_are_answered_with_themselves.Goals as goal
 
 pub returns : goal.returns
-returns c = λ offered own answer of_offered of_own h holds. again offered own answer of_offered of_own holds h
+returns c = λ by offered own answer of_offered of_own h holds. again by offered own answer of_offered of_own holds h

@@ -7,5 +7,5 @@ use Rattle.h26x_answers.proofs.laws.h264_answers_are_read.Goals as goal
 pub returns : goal.returns
 returns c = record {
   parameters = answers_kept;
-  read = λ offered own answer of_offered of_own h. read_again rows answer h264_table (answers_kept offered own answer of_offered of_own h);
+  read = λ by offered own answer of_offered of_own h. read_again rows answer h264_table (answers_kept by offered own answer of_offered of_own h);
 }

@@ -11,10 +11,10 @@ use Rattle.h26x_answers.proofs.laws.whom_both_understand_is_found.Goals as goal
 
 pub returns : goal.returns
 returns c = record {
-  h264_found = found h264.rules c264.IsCommon h264_terms;
-  h264_none = comes_from h264.rules c264.IsCommon h264_common;
-  h265_found = found h265.rules c265.IsCommon h265_terms;
-  h265_none = comes_from h265.rules c265.IsCommon h265_common;
+  h264_found = λ by. found (h264.rules by) (c264.IsCommon by) (h264_terms by);
+  h264_none = λ by. comes_from (h264.rules by) (c264.IsCommon by) (h264_common by);
+  h265_found = λ by. found (h265.rules by) (c265.IsCommon by) (h265_terms by);
+  h265_none = λ by. comes_from (h265.rules by) (c265.IsCommon by) (h265_common by);
   h266_found = found h266.rules c266.IsCommon h266_terms;
   h266_none = comes_from h266.rules c266.IsCommon h266_common;
 }

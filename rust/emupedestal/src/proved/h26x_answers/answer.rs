@@ -24,8 +24,9 @@ use alloc::vec::Vec;
 pub enum Role {
     /// Configuration of both directions: the answer has the offer's value, and ours says the same.
     Configuration,
-    /// The same, where another parameter says what it is if it's absent.
-    Inferred,
+    /// The same, which the terms of the codec compare: where another parameter says what it is if it's
+    /// absent, and where not all peers look at it.
+    Compared,
     /// The profile and level, or the level: the answer's depends on both.
     Level,
     /// The highest level that is received, where the answer's depends on both.
@@ -53,15 +54,16 @@ pub trait CodecRules: CodecParameter {
     /// The terms of an offered format and one of ours, whose configuration is one; `None` where they
     /// have none.
     fn terms(
+        rules: AnswerRules,
         offered: &CodecParameters<Self>,
         own: &CodecParameters<Self>,
     ) -> Result<Option<Terms>, AllocError>;
 
     /// Whether a format's profile and level are those of a table.
-    fn is_known(it: &CodecParameters<Self>) -> bool;
+    fn is_known(rules: AnswerRules, it: &CodecParameters<Self>) -> bool;
 
     /// The first rule of its RFC that a format of one's own breaks, if it breaks one.
-    fn fault(own: &CodecParameters<Self>) -> Option<FormatFault>;
+    fn fault(rules: AnswerRules, own: &CodecParameters<Self>) -> Option<FormatFault>;
 
     /// Whether a format's units may be sent in another order than decoded: `packetization-mode` 2 of
     /// H.264 (RFC 6184, section 6.4), and `sprop-max-don-diff` above 0 of H.265 and H.266 (RFC 7798,
@@ -69,12 +71,28 @@ pub trait CodecRules: CodecParameter {
     fn reorders(it: &CodecParameters<Self>) -> bool;
 }
 
-/// What an answerer can do that no format says, and this payload layer can't.
+/// By which rules formats are read and compared.
+#[derive(Debug, Clone, Copy, PartialEq, Eq, Default)]
+pub enum AnswerRules {
+    /// Those of the RFCs.
+    #[default]
+    Rfc,
+    /// Those, but as WebRTC's peers do it. H.264 without `profile-level-id` is `42e01f`, and not
+    /// `42000a` (libwebrtc, aiortc), so that a format without any parameter is that in
+    /// `packetization-mode` 0; who decodes Baseline or High takes an offer of its constrained profile,
+    /// `42e01f` or `640c1f`, and answers with that. Of H.265 `interop-constraints` and
+    /// `profile-compatibility-indicator` aren't compared (libwebrtc).
+    Webrtc,
+}
+
+/// How an answerer answers, and what it can do that no format says, and this payload layer can't.
 #[derive(Debug, Clone, Copy, PartialEq, Eq, Default)]
 pub struct AnswerConfig {
     /// Whether it takes formats whose units may be sent in another order than decoded: it reads STAP-B,
     /// MTAP and FU-B of H.264, and puts units in order by their decoding order numbers.
     pub any_order: bool,
+    /// By which rules it reads and compares formats: those of the RFCs unless others are asked for.
+    pub rules: AnswerRules,
 }
 
 /// What two formats of one configuration agree on.
@@ -206,7 +224,7 @@ fn answered_value<'a>(
     own: &'a Option<Vec<u8>>,
 ) -> Option<&'a [u8]> {
     match role {
-        Role::Configuration | Role::Inferred => bytes_of(offered),
+        Role::Configuration | Role::Compared => bytes_of(offered),
         Role::Level => bytes_of(&terms.level),
         Role::HighestLevel => bytes_of(&terms.highest),
         Role::Asymmetry => only_if(terms.asymmetric, own),
@@ -268,6 +286,7 @@ pub struct Format<P: CodecParameter> {
 
 /// The parameters of the answer, on terms.
 fn answered<P: CodecRules>(
+    _rules: AnswerRules,
     offered: &CodecParameters<P>,
     own: &CodecParameters<P>,
     terms: &Terms,
@@ -282,6 +301,7 @@ fn answered<P: CodecRules>(
 
 /// The terms of two formats, if they are of one configuration.
 fn common_terms<P: CodecRules>(
+    rules: AnswerRules,
     offered: &CodecParameters<P>,
     own: &CodecParameters<P>,
 ) -> Result<Option<Terms>, AllocError> {
@@ -293,16 +313,17 @@ fn common_terms<P: CodecRules>(
     ) {
         return Ok(None);
     }
-    P::terms(offered, own)
+    P::terms(rules, offered, own)
 }
 
 /// The answer to an offered format by one of ours.
 fn answer_by<P: CodecRules>(
+    rules: AnswerRules,
     offered: &CodecParameters<P>,
     own: &CodecParameters<P>,
 ) -> Result<Option<CodecParameters<P>>, AllocError> {
-    match common_terms(offered, own)? {
-        Some(terms) => Ok(Some(answered(offered, own, &terms)?)),
+    match common_terms(rules, offered, own)? {
+        Some(terms) => Ok(Some(answered(rules, offered, own, &terms)?)),
         None => Ok(None),
     }
 }
@@ -314,7 +335,7 @@ pub fn own_fault<P: CodecRules>(
     config: AnswerConfig,
     own: &CodecParameters<P>,
 ) -> Option<FormatFault> {
-    match P::fault(own) {
+    match P::fault(config.rules, own) {
         Some(fault) => Some(fault),
         None if config.any_order || !P::reorders(own) => None,
         None => Some(FormatFault::OutOfOrder),
@@ -329,10 +350,10 @@ fn allowed_answer<P: CodecRules>(
     own: &CodecParameters<P>,
 ) -> Result<Option<CodecParameters<P>>, AllocError> {
     let is_ordered = config.any_order || !P::reorders(offered);
-    if !P::is_known(offered) || !is_ordered || own_fault(config, own).is_some() {
+    if !P::is_known(config.rules, offered) || !is_ordered || own_fault(config, own).is_some() {
         return Ok(None);
     }
-    answer_by(offered, own)
+    answer_by(config.rules, offered, own)
 }
 
 /// The answer to the parameters of an offered format, by the first of ours that gives one; `None`

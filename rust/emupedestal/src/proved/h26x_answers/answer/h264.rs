@@ -3,7 +3,7 @@
 //! Answers to offers of H.264 (RFC 6184, section 8.2.2).
 
 use crate::proved::h26x_answers::answer::{
-    CodecRules, Role, Terms, copy_of, holds, own_h264, same_number,
+    AnswerRules, CodecRules, Role, Terms, copy_of, holds, own_h264, same_number,
 };
 use crate::proved::h26x_answers::fault::FormatFault;
 use crate::proved::h26x_profile::{H264LevelIdc, H264Profile, H264ProfileIdc, H264ProfileLevel};
@@ -115,6 +115,13 @@ impl ProfileLevelId {
             || same_sub_profile(self.sub_profile(), other.sub_profile())
     }
 
+    /// Whether an end of a profile takes this one, which is offered.
+    fn is_taken(self, rules: AnswerRules, own: Self) -> bool {
+        self.same_profile(own)
+            || (rules == AnswerRules::Webrtc
+                && constrained_sub_profile(self.sub_profile(), own.sub_profile()))
+    }
+
     /// The same profile at the level of another.
     fn at_level_of(self, other: Self) -> Self {
         let profile_iop = if self.has_level_flag() && other.is_1b() {
@@ -151,6 +158,23 @@ fn same_sub_profile(a: Option<H264Profile>, b: Option<H264Profile>) -> bool {
     }
 }
 
+/// Whether two sub-profiles are known, and the first is the constrained one of the second.
+fn constrained_sub_profile(a: Option<H264Profile>, b: Option<H264Profile>) -> bool {
+    match (a, b) {
+        (Some(a), Some(b)) => is_constrained_of(a, b),
+        _ => false,
+    }
+}
+
+/// Whether a profile is the constrained one of another.
+fn is_constrained_of(a: H264Profile, b: H264Profile) -> bool {
+    match a {
+        H264Profile::ConstrainedBaseline => matches!(b, H264Profile::Baseline),
+        H264Profile::ConstrainedHigh => matches!(b, H264Profile::High),
+        _ => false,
+    }
+}
+
 /// The level that the two bytes of a `max-recv-level` say, as `level_rank`.
 pub(crate) fn recv_rank(text: &[u8]) -> u16 {
     match <[u8; 2] as FromHex>::from_hex(text) {
@@ -173,9 +197,20 @@ fn is_on(it: &H264Parameters, parameter: H264Parameter) -> bool {
     same_number(it.number_or_default(parameter), Some(1))
 }
 
-/// The `profile-level-id` of parameters, or its default.
-pub(crate) fn id_of(it: &H264Parameters) -> Option<ProfileLevelId> {
-    ProfileLevelId::read(it.value_or_default(H264Parameter::ProfileLevelId)?)
+/// The text of a `profile-level-id`, or what is said where there is none.
+fn id_text(rules: AnswerRules, it: &H264Parameters) -> Option<&[u8]> {
+    match rules {
+        AnswerRules::Rfc => it.value_or_default(H264Parameter::ProfileLevelId),
+        AnswerRules::Webrtc => match it.value(H264Parameter::ProfileLevelId) {
+            Some(text) => Some(text),
+            None => Some(b"42e01f"),
+        },
+    }
+}
+
+/// The bytes of a `profile-level-id`, or those that are said where there is none.
+pub(crate) fn id_of(rules: AnswerRules, it: &H264Parameters) -> Option<ProfileLevelId> {
+    ProfileLevelId::read(id_text(rules, it)?)
 }
 
 /// The highest level that an end receives, as `level_rank`.
@@ -279,11 +314,15 @@ fn terms_at(
 }
 
 /// The terms of two formats of one packetization mode, if they have some.
-fn terms(offered: &H264Parameters, own: &H264Parameters) -> Result<Option<Terms>, AllocError> {
-    let (Some(a), Some(b)) = (id_of(offered), id_of(own)) else {
+fn terms(
+    rules: AnswerRules,
+    offered: &H264Parameters,
+    own: &H264Parameters,
+) -> Result<Option<Terms>, AllocError> {
+    let (Some(a), Some(b)) = (id_of(rules, offered), id_of(rules, own)) else {
         return Ok(None);
     };
-    if !(a.same_profile(b) && can_order(offered, own)) {
+    if !(a.is_taken(rules, b) && can_order(offered, own)) {
         return Ok(None);
     }
     Ok(Some(terms_at(
@@ -299,16 +338,20 @@ impl CodecRules for H264Parameter {
         &ROLES
     }
 
-    fn terms(offered: &H264Parameters, own: &H264Parameters) -> Result<Option<Terms>, AllocError> {
-        terms(offered, own)
+    fn terms(
+        rules: AnswerRules,
+        offered: &H264Parameters,
+        own: &H264Parameters,
+    ) -> Result<Option<Terms>, AllocError> {
+        terms(rules, offered, own)
     }
 
-    fn is_known(it: &H264Parameters) -> bool {
-        own_h264::is_known(it)
+    fn is_known(rules: AnswerRules, it: &H264Parameters) -> bool {
+        own_h264::is_known(rules, it)
     }
 
-    fn fault(own: &H264Parameters) -> Option<FormatFault> {
-        own_h264::fault(own)
+    fn fault(rules: AnswerRules, own: &H264Parameters) -> Option<FormatFault> {
+        own_h264::fault(rules, own)
     }
 
     fn reorders(it: &H264Parameters) -> bool {

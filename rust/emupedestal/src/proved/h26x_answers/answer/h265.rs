@@ -3,8 +3,11 @@
 //! Answers to offers of H.265 (RFC 7798, section 7.2.2).
 
 use crate::proved::h26x_answers::answer::by_level::{LevelParameters, is_positive, terms_by_level};
-use crate::proved::h26x_answers::answer::{CodecRules, Role, Terms, own_h265, same_number};
+use crate::proved::h26x_answers::answer::{
+    AnswerRules, CodecRules, Role, Terms, own_h265, same_if_given, same_number,
+};
 use crate::proved::h26x_answers::fault::FormatFault;
+use crate::proved::h26x_fmtp::Kind;
 use crate::proved::h26x_sdp::{H265Parameter, H265Parameters};
 use crate::support::AllocError;
 use crate::support::hex::FromHex;
@@ -18,8 +21,8 @@ static ROLES: [Role; 30] = [
     // level-id
     Role::Level,
     // interop-constraints and profile-compatibility-indicator
-    Role::Configuration,
-    Role::Inferred,
+    Role::Compared,
+    Role::Compared,
     // sprop-sub-layer-id and recv-sub-layer-id
     Role::Own,
     Role::OperationPoint,
@@ -85,9 +88,33 @@ fn flag_of(profile: Option<u64>) -> Option<u64> {
     }
 }
 
-/// The terms of two formats of one configuration, if they have the same flags.
-fn terms(offered: &H265Parameters, own: &H265Parameters) -> Result<Option<Terms>, AllocError> {
-    if !same_number(compatible_profiles(offered), compatible_profiles(own)) {
+/// Whether two formats have the same constraints.
+fn same_constraints(offered: &H265Parameters, own: &H265Parameters) -> bool {
+    same_if_given(
+        Kind::Hexadecimal { bytes: 6 },
+        offered.value_or_default(H265Parameter::InteropConstraints),
+        own.value_or_default(H265Parameter::InteropConstraints),
+    )
+}
+
+/// Whether two formats are of one profile beside its number.
+fn agree(rules: AnswerRules, offered: &H265Parameters, own: &H265Parameters) -> bool {
+    match rules {
+        AnswerRules::Rfc => {
+            same_constraints(offered, own)
+                && same_number(compatible_profiles(offered), compatible_profiles(own))
+        }
+        AnswerRules::Webrtc => true,
+    }
+}
+
+/// The terms of two formats of one configuration.
+fn terms(
+    rules: AnswerRules,
+    offered: &H265Parameters,
+    own: &H265Parameters,
+) -> Result<Option<Terms>, AllocError> {
+    if !agree(rules, offered, own) {
         return Ok(None);
     }
     terms_by_level(&BY, offered, own)
@@ -98,15 +125,19 @@ impl CodecRules for H265Parameter {
         &ROLES
     }
 
-    fn terms(offered: &H265Parameters, own: &H265Parameters) -> Result<Option<Terms>, AllocError> {
-        terms(offered, own)
+    fn terms(
+        rules: AnswerRules,
+        offered: &H265Parameters,
+        own: &H265Parameters,
+    ) -> Result<Option<Terms>, AllocError> {
+        terms(rules, offered, own)
     }
 
-    fn is_known(it: &H265Parameters) -> bool {
+    fn is_known(_rules: AnswerRules, it: &H265Parameters) -> bool {
         own_h265::is_known(it)
     }
 
-    fn fault(own: &H265Parameters) -> Option<FormatFault> {
+    fn fault(_rules: AnswerRules, own: &H265Parameters) -> Option<FormatFault> {
         own_h265::fault(own)
     }
 

@@ -4,7 +4,7 @@
 
 use crate::proved::h26x_answers::answer::by_level::{LevelParameters, is_positive, terms_by_level};
 use crate::proved::h26x_answers::answer::{
-    CodecRules, Role, Terms, own_h266, same_if_given, same_number,
+    AnswerRules, CodecRules, Role, Terms, own_h266, same_if_given, same_number,
 };
 use crate::proved::h26x_answers::fault::FormatFault;
 use crate::proved::h26x_fmtp::Kind;
@@ -90,15 +90,19 @@ impl CodecRules for H266Parameter {
         &ROLES
     }
 
-    fn terms(offered: &H266Parameters, own: &H266Parameters) -> Result<Option<Terms>, AllocError> {
+    fn terms(
+        _rules: AnswerRules,
+        offered: &H266Parameters,
+        own: &H266Parameters,
+    ) -> Result<Option<Terms>, AllocError> {
         terms(offered, own)
     }
 
-    fn is_known(it: &H266Parameters) -> bool {
+    fn is_known(_rules: AnswerRules, it: &H266Parameters) -> bool {
         own_h266::is_known(it)
     }
 
-    fn fault(own: &H266Parameters) -> Option<FormatFault> {
+    fn fault(_rules: AnswerRules, own: &H266Parameters) -> Option<FormatFault> {
         own_h266::fault(own)
     }
 

@@ -2,6 +2,7 @@
 
 //! Formats of H.264 that RFC 6184, section 8.1, lets an end say of itself.
 
+use crate::proved::h26x_answers::answer::AnswerRules;
 use crate::proved::h26x_answers::answer::h264::{ProfileLevelId, id_of, is_interleaved, recv_rank};
 use crate::proved::h26x_answers::fault::{FormatFault, fault_below};
 use crate::proved::h26x_sdp::{H264Parameter, H264Parameters};
@@ -121,16 +122,16 @@ fn is_level(id: ProfileLevelId) -> bool {
 }
 
 /// Whether a format's level is one of the standard's.
-pub(crate) fn is_known(it: &H264Parameters) -> bool {
-    match id_of(it) {
+pub(crate) fn is_known(rules: AnswerRules, it: &H264Parameters) -> bool {
+    match id_of(rules, it) {
         Some(id) => is_level(id),
         None => false,
     }
 }
 
 /// The first rule that a format of one's own breaks.
-pub(crate) fn fault(it: &H264Parameters) -> Option<FormatFault> {
-    match id_of(it) {
+pub(crate) fn fault(rules: AnswerRules, it: &H264Parameters) -> Option<FormatFault> {
+    match id_of(rules, it) {
         Some(id) if is_level(id) => fault_received(it, id.level_rank()),
         _ => Some(FormatFault::Level),
     }
