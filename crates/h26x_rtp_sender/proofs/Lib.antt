@@ -1,0 +1,5 @@
+pub mod HistoryLemmas
+pub mod UnitLemmas
+pub mod NumberLemmas
+pub mod LawLemmas
+pub mod ReceivingLemmas

@@ -1,0 +1,65 @@
+// Made from crates/h26x_rtp_sender/src/unit.rt by tools/to-rust.
+
+//! What the headers of an access unit's packets have in common.
+
+use crate::proved::h26x_packetizer::PacketBuffer;
+use crate::proved::h26x_rtp::{RtpExtension, RtpHeader, RtpWriteError};
+
+/// How many bytes a header may have here: an extension of 256 bytes.
+const LONGEST_HEADER: usize = 272;
+
+/// What the headers of an access unit's packets have in common (RFC 3550, 5.1).
+#[derive(Debug, Clone, Copy)]
+pub(crate) struct UnitHeader<'a> {
+    pub payload_type: u8,
+    pub timestamp: u32,
+    pub ssrc: u32,
+    pub extension: Option<RtpExtension<'a>>,
+}
+
+impl<'a> UnitHeader<'a> {
+    /// The header of a packet.
+    fn header(self, sequence: u16, marker: bool) -> RtpHeader<'a> {
+        RtpHeader {
+            marker,
+            payload_type: self.payload_type,
+            sequence,
+            timestamp: self.timestamp,
+            ssrc: self.ssrc,
+            csrcs: &[],
+            extension: self.extension,
+        }
+    }
+
+    /// Where each header begins in a headroom of so many bytes, at whose end it stands, or why none is
+    /// written.
+    pub(crate) fn test(self, headroom: usize) -> Result<usize, RtpWriteError> {
+        let mut memory = [0; LONGEST_HEADER];
+        let place = headroom.min(LONGEST_HEADER);
+        let start = self
+            .header(0, false)
+            .write_before(false, place, &mut memory)?;
+        Ok(start + (headroom - place))
+    }
+
+    /// Writes the header of a packet right before it.
+    fn put(self, sequence: u16, marker: bool, place: usize, packets: &mut PacketBuffer) {
+        let header = self.header(sequence, marker);
+        let mut memory = [0; LONGEST_HEADER];
+        let start = header
+            .write_before(false, LONGEST_HEADER, &mut memory)
+            .unwrap();
+        packets.write_header(place, &memory[start..]);
+    }
+
+    /// Writes the headers of all packets, of which the first has this number: the last has the marker
+    /// (RFC 6184, 5.1; RFC 7798, 4.1; RFC 9328, 4.1).
+    pub(crate) fn put_all(self, first: u16, packets: &mut PacketBuffer) {
+        let count = packets.len();
+        let mut sequence = first;
+        for place in 0..count {
+            self.put(sequence, place + 1 == count, place, packets);
+            sequence = sequence.wrapping_add(1);
+        }
+    }
+}
