@@ -1,145 +1,120 @@
-//! Records H.264 out of RTP over UDP into a file in Annex B form: `recorder 0.0.0.0:5004 out.h264`. It asks again
-//! for packets that are missing (NACK), and for a keyframe where a decoder couldn't go on (PLI). RTCP goes to
-//! where RTP comes from (RFC 5761), without reports (RFC 5506). It ends with the sender's BYE.
+//! Records H.264 out of RTP over UDP into a file in Annex B form: `recorder 0.0.0.0:5004 out.h264`. RTX is undone; it
+//! asks again for packets that are missing (NACK), and for a keyframe where a decoder couldn't go on (PLI), and reports
+//! what came. RTCP goes to where RTP comes from (RFC 5761), without names (RFC 5506). It ends with the sender's BYE.
 
-use emupedestal::{AccessUnitConfig, AccessUnitReceiver, Codec, NackTimes, RtpPacket};
-use std::net::{SocketAddr, UdpSocket};
+use emupedestal::rtp::{PictureLoss, ReceiverReport, is_rtcp, write_nack};
+use emupedestal::rtp_receiver::{
+    RtpPayloadTypes, RtpPushError, RtpPushed, RtpReceiver, RtpSources,
+};
+use emupedestal::{AccessUnitConfig, Codec, NackTimes};
+use std::io::ErrorKind::{Interrupted, TimedOut, WouldBlock};
+use std::net::UdpSocket;
 use std::time::{Duration, Instant};
-use std::{env, error::Error, fs::File, io::ErrorKind, io::Write};
+use std::{env, error::Error, fs::File, io::Write};
 
-/// A packet, behind its payload type and its SSRC.
-type Rtp<'a> = (u8, u32, RtpPacket<'a>);
 type Outcome<T = ()> = Result<T, Box<dyn Error + Send + Sync>>;
 
-const PAYLOAD_TYPE: u8 = 96;
+/// As a session description tells them.
+const TYPES: RtpPayloadTypes = RtpPayloadTypes {
+    media: 96,
+    rtx: Some(97),
+    red: None,
+    rtx_of_red: None,
+    fec: None,
+};
 /// The SSRC of this end, in what it asks for.
 const OWN_SSRC: u32 = 0x7265_6331;
-/// Milliseconds: how long a packet is waited for, or a keyframe; and how often packets are asked for.
+/// Milliseconds: how long a packet is waited for, or a keyframe; how often packets are asked for; and between reports.
 const MAX_WAIT: u32 = 1000;
 const RETRY: u32 = 20;
-
-struct Recorder {
-    socket: UdpSocket,
-    file: File,
-    receiver: AccessUnitReceiver,
-    /// Who sends: where from, and with which SSRC.
-    sender: Option<(SocketAddr, u32)>,
-    begin: Instant,
-    /// When a keyframe may be asked for again.
-    retry: u32,
-}
+const REPORTS: u32 = 5000;
+/// A goodbye's type (RFC 3550, 6.6).
+const BYE: u8 = 203;
 
 /// Records until the stream is over.
-pub fn record(socket: UdpSocket, file: File) -> Outcome {
+pub fn record(socket: UdpSocket, mut file: File) -> Outcome {
     let config = AccessUnitConfig {
         max_wait: MAX_WAIT,
         ..AccessUnitConfig::default()
     };
-    let mut recorder = Recorder {
-        socket,
-        file,
-        receiver: AccessUnitReceiver::new(Codec::H264, config),
-        sender: None,
-        begin: Instant::now(),
-        retry: 0,
-    };
-    while recorder.receive()? {
-        recorder.write_units()?;
-        recorder.ask_again()?;
-    }
-    recorder.receiver.finish();
-    recorder.write_units()
-}
-
-impl Recorder {
-    fn now(&self) -> u32 {
-        self.begin.elapsed().as_millis() as u32
-    }
-
-    /// Waits for the next packet, until one that waits is due or is to be asked for again; false at the end.
-    fn receive(&mut self) -> Outcome<bool> {
-        let ahead = |deadline: u32| deadline.saturating_sub(self.now()).clamp(1, RETRY);
-        let wait = Duration::from_millis(self.receiver.deadline().map_or(MAX_WAIT, ahead).into());
-        self.socket.set_read_timeout(Some(wait))?;
-        let mut buffer = [0; 2048];
-        match self.socket.recv_from(&mut buffer) {
-            Ok((len, from)) => rtp(&buffer[..len]).map_or(Ok(()), |it| self.take(it, from))?,
-            Err(it) if [ErrorKind::WouldBlock, ErrorKind::TimedOut].contains(&it.kind()) => {}
-            Err(error) => return Err(error.into()),
-        }
-        Ok(buffer[1] != 203) // BYE (RFC 3550, 6.6)
-    }
-
-    fn take(&mut self, (payload_type, ssrc, packet): Rtp<'_>, from: SocketAddr) -> Outcome {
-        if self.sender.is_none_or(|it| it.1 != ssrc) {
-            self.receiver.restart();
-            self.sender = Some((from, ssrc));
-        }
-        match payload_type {
-            PAYLOAD_TYPE => self.receiver.push(self.now(), &packet)?,
-            _ => self.receiver.skip(self.now(), packet.sequence)?,
-        };
-        Ok(())
-    }
-
-    /// Writes what a decoder can decode, and asks for a keyframe where it couldn't (PLI: RFC 4585, 6.3.1).
-    fn write_units(&mut self) -> Outcome {
-        while let Some(unit) = self.receiver.next(self.now())? {
-            if unit.is_clean {
-                self.file.write_all(&unit.bytes)?;
-            } else if self.now() >= self.retry {
-                self.retry = self.now() + MAX_WAIT;
-                self.send(206, &[])?;
+    let mut receiver = RtpReceiver::new(Codec::H264, TYPES, config);
+    let begin = Instant::now();
+    let now = || begin.elapsed().as_millis() as u32;
+    let (mut sender, mut report) = (None, REPORTS);
+    let (mut datagram, mut rtcp) = ([0; 2048], [0; 1200]);
+    socket.set_read_timeout(Some(Duration::from_millis(RETRY.into())))?;
+    loop {
+        match socket.recv_from(&mut datagram) {
+            Ok((len, _)) if is_rtcp(&datagram[..len]) && datagram[1] == BYE => break,
+            Ok((len, from)) => {
+                take(&mut receiver, now(), &datagram[..len])?;
+                sender = Some(from);
             }
-            self.receiver.give_back(unit);
+            Err(error) if ![WouldBlock, TimedOut, Interrupted].contains(&error.kind()) => {
+                Err(error)?
+            }
+            Err(_) => {}
         }
-        Ok(())
-    }
-
-    /// Asks for what is missing, at once and again (NACK: RFC 4585, 6.2.1).
-    fn ask_again(&mut self) -> Outcome {
-        let times = NackTimes {
-            first: 0,
-            again: RETRY,
-            most: (MAX_WAIT / RETRY) as u8,
-        };
-        let missing = self.receiver.nacks(self.now(), times, 256)?;
-        if !missing.is_empty() {
-            let each = missing.iter().map(|it| u32::from(*it) << 16);
-            self.send(205, &each.collect::<Vec<u32>>())?;
+        write_units(&mut receiver, now(), &mut file)?;
+        let len = answer(&mut receiver, now(), &mut report, &mut rtcp)?;
+        if let Some(sender) = sender.filter(|_| len > 0) {
+            socket.send_to(&rtcp[..len], sender)?;
         }
-        Ok(())
     }
-
-    /// Sends feedback about the sender's packets, of format 1 (RFC 4585, 6.1).
-    fn send(&self, packet_type: u32, about: &[u32]) -> Outcome {
-        if let Some((address, ssrc)) = self.sender {
-            let front = 0x8100_0000 | packet_type << 16 | (2 + about.len() as u32);
-            let words = [&[front, OWN_SSRC, ssrc], about].concat();
-            let bytes: Vec<u8> = words.into_iter().flat_map(u32::to_be_bytes).collect();
-            self.socket.send_to(&bytes, address)?;
-        }
-        Ok(())
-    }
+    receiver.finish();
+    write_units(&mut receiver, now(), &mut file)
 }
 
-/// The packet of a datagram of RTP, and not of RTCP (RFC 3550, 5.1; RFC 5761, 4).
-fn rtp(datagram: &[u8]) -> Option<Rtp<'_>> {
-    let word = |at: usize| Some(u32::from_be_bytes(*datagram.get(at..)?.first_chunk()?));
-    let (front, timestamp, ssrc) = (word(0)?, word(4)?, word(8)?);
-    let (flags, payload_type) = (front >> 24, (front >> 16) as u8 & 127);
-    let mut begin = 12 + 4 * (flags & 15) as usize;
-    if flags & 16 > 0 {
-        begin += 4 + 4 * (word(begin)? & 0xffff) as usize;
+/// Takes a datagram; a stream that comes with another SSRC is followed from then on.
+fn take(receiver: &mut RtpReceiver, now: u32, datagram: &[u8]) -> Outcome {
+    let arrival = now.wrapping_mul(90);
+    match receiver.push(now, arrival, datagram) {
+        Ok(RtpPushed::NewSource(ssrc)) => {
+            let (media, rtx) = (Some(ssrc), None);
+            receiver.follow(RtpSources { media, rtx });
+            receiver.push(now, arrival, datagram)?;
+        }
+        Err(RtpPushError::Packet(error)) => return Err(error.into()),
+        _ => {}
     }
-    let padding = usize::from(*datagram.last()?) * (flags >> 5 & 1) as usize;
-    let packet = RtpPacket {
-        sequence: front as u16,
-        timestamp,
-        marker: front >> 23 & 1 > 0,
-        payload: datagram.get(begin..datagram.len().checked_sub(padding)?)?,
+    Ok(())
+}
+
+/// Writes what a decoder can decode.
+fn write_units(receiver: &mut RtpReceiver, now: u32, file: &mut File) -> Outcome {
+    while let Some(unit) = receiver.next(now)? {
+        if unit.is_clean {
+            file.write_all(&unit.bytes)?;
+        }
+        receiver.give_back(unit);
+    }
+    Ok(())
+}
+
+/// Reports, where it is time for it, and asks for what is missing, at once and again, and for a keyframe where no decoder
+/// can go on; how many bytes it says.
+fn answer(
+    receiver: &mut RtpReceiver,
+    now: u32,
+    report: &mut u32,
+    rtcp: &mut [u8],
+) -> Outcome<usize> {
+    let Some(media) = receiver.sources().media else {
+        return Ok(0);
     };
-    (flags >> 6 == 2 && payload_type & 96 != 64).then_some((payload_type, ssrc, packet))
+    let (sender, mut len) = (OWN_SSRC, 0);
+    if now >= *report {
+        *report = now + REPORTS;
+        let block = receiver.report(0, 0).ok_or("no stream")?;
+        len += ReceiverReport { sender, block }.write(rtcp)?;
+    }
+    let (first, again, most) = (0, RETRY, (MAX_WAIT / RETRY) as u8);
+    let missing = receiver.nacks(now, NackTimes { first, again, most }, 256)?;
+    len += write_nack(sender, media, &missing, &mut rtcp[len..])?.size;
+    if receiver.keyframe_wanted(now, MAX_WAIT) {
+        len += PictureLoss { sender, media }.write(&mut rtcp[len..])?;
+    }
+    Ok(len)
 }
 
 fn main() -> Outcome {

@@ -5,6 +5,7 @@
 #[path = "../examples/recorder.rs"]
 mod recorder;
 
+use emupedestal::rtp::split_rtcp;
 use emupedestal::{H264Packetizer, Packetizer};
 use std::collections::BTreeMap;
 use std::fs::{self, File};
@@ -16,9 +17,10 @@ use std::{env, process, thread};
 const SSRC: u32 = 0x0102_0304;
 /// Behind the end of numbers soon.
 const FIRST: u16 = 65_500;
-/// Every tenth picture is a keyframe, and of this one a packet never comes.
-const PICTURES: usize = 30;
-const DAMAGED: usize = 15;
+/// Every tenth picture is a keyframe, and of this one a packet never comes. The last one is sent once a keyframe is asked
+/// for.
+const PICTURES: usize = 31;
+const DAMAGED: usize = 25;
 
 /// The length of the next datagram, unless none comes in a socket's time. The system may interrupt a call that
 /// has one.
@@ -43,11 +45,12 @@ fn picture(place: usize) -> Vec<u8> {
     }
 }
 
-/// The packets of all pictures, and the place of the one that never comes.
-fn packets() -> (Vec<Vec<u8>>, usize) {
+/// The packets of all pictures, the place of the one that never comes, and that of the first of the last picture.
+fn packets() -> (Vec<Vec<u8>>, usize, usize) {
     let mut packetizer = H264Packetizer::default();
-    let (mut packets, mut never) = (Vec::new(), 0);
+    let (mut packets, mut never, mut last) = (Vec::new(), 0, 0);
     for place in 0..PICTURES {
+        last = packets.len();
         let payloads = packetizer.packetize(500, &picture(place)).expect("memory");
         let count = payloads.len();
         for (i, payload) in payloads.into_iter().enumerate() {
@@ -62,7 +65,7 @@ fn packets() -> (Vec<Vec<u8>>, usize) {
             packets.push(packet);
         }
     }
-    (packets, never)
+    (packets, never, last)
 }
 
 struct Sender {
@@ -70,6 +73,7 @@ struct Sender {
     to: SocketAddr,
     packets: Vec<Vec<u8>>,
     never: usize,
+    last: usize,
     /// How often each packet was asked for.
     asked: BTreeMap<usize, u32>,
     keyframes_asked: u32,
@@ -86,12 +90,12 @@ impl Sender {
 
     /// Sends all, but every seventh packet from the fifth on, and every eleventh behind the next one.
     fn send_all(&mut self) {
-        let mut places: Vec<usize> = (0..self.packets.len()).collect();
+        let mut places: Vec<usize> = (0..self.last).collect();
         (20..places.len() - 1)
             .step_by(11)
             .for_each(|i| places.swap(i, i + 1));
         for place in places {
-            if !is_dropped(place, self.packets.len()) {
+            if !is_dropped(place, self.last) {
                 self.send(place);
             }
             self.answer(Duration::from_millis(1));
@@ -103,15 +107,40 @@ impl Sender {
         self.socket.set_read_timeout(Some(silence)).expect("a time");
         let mut buffer = [0; 2048];
         while let Some(len) = receive(&self.socket, &mut buffer) {
-            let message = &buffer[..len];
-            let words = usize::from(u16::from_be_bytes([message[2], message[3]]));
-            assert_eq!((message[0], 4 * (words + 1)), (0x81, len), "the header");
-            assert_eq!(message[8..12], SSRC.to_be_bytes());
-            match message[1] {
-                205 => message[12..].chunks(4).for_each(|it| self.send_again(it)),
-                206 => self.keyframes_asked += 1,
-                other => panic!("a message of type {other}"),
+            let mut rest = &buffer[..len];
+            while let Some((message, behind)) = split_rtcp(rest) {
+                assert_eq!(
+                    (message[0], &message[8..12]),
+                    (0x81, &SSRC.to_be_bytes()[..])
+                );
+                match message[1] {
+                    201 => {}
+                    205 => message[12..].chunks(4).for_each(|it| self.send_again(it)),
+                    206 => {
+                        self.keyframes_asked += 1;
+                        (self.last..self.packets.len()).for_each(|it| self.send(it));
+                    }
+                    other => panic!("a message of type {other}"),
+                }
+                rest = behind;
             }
+            assert!(rest.is_empty(), "whole messages");
+        }
+    }
+
+    /// Sends a packet again, every second one as RTX has it (RFC 4588, 4).
+    fn resend(&self, place: usize) {
+        if place % 2 == 0 {
+            return self.send(place);
+        }
+        let mut again = self.packets[place].clone();
+        let original = [again[2], again[3]];
+        again[1] = again[1] & 0x80 | 97;
+        again[2..4].copy_from_slice(&(place as u16).to_be_bytes());
+        again[8] ^= 1;
+        again.splice(12..12, original);
+        if place != self.never {
+            self.socket.send_to(&again, self.to).expect("loopback");
         }
     }
 
@@ -125,7 +154,7 @@ impl Sender {
             let count = self.asked.entry(place).or_default();
             *count += 1;
             if *count > 1 || place % 3 > 0 {
-                self.send(place);
+                self.resend(place);
             }
         }
     }
@@ -143,12 +172,13 @@ fn a_stream_with_losses() {
     let path = env::temp_dir().join(format!("recorder-{}.h264", process::id()));
     let file = File::create(&path).expect("a file");
     let recording = thread::spawn(move || recorder::record(socket, file));
-    let (packets, never) = packets();
+    let (packets, never, last) = packets();
     let mut sender = Sender {
         socket: UdpSocket::bind("127.0.0.1:0").expect("a port"),
         to,
         packets,
         never,
+        last,
         asked: BTreeMap::new(),
         keyframes_asked: 0,
     };
@@ -162,7 +192,7 @@ fn a_stream_with_losses() {
     let recorded = fs::read(&path).expect("a file that was written");
     fs::remove_file(&path).expect("its file");
     // From the first keyframe on, and where a packet is missing again from the next one on.
-    let pictures = (0..DAMAGED).chain(20..PICTURES);
+    let pictures = (0..DAMAGED).chain(PICTURES - 1..PICTURES);
     let wanted: Vec<u8> = pictures.flat_map(picture).collect();
     assert!(
         recorded == wanted,
@@ -170,7 +200,7 @@ fn a_stream_with_losses() {
         recorded.len(),
         begin.elapsed()
     );
-    let count = sender.packets.len();
+    let count = sender.last;
     for place in (0..count).filter(|place| is_dropped(*place, count) || *place == never) {
         let least = if place % 3 == 0 { 2 } else { 1 };
         assert!(

@@ -34,8 +34,8 @@ pub fn run(words: Vec<OsString>) -> u8 {
 fn done(words: Vec<OsString>) -> Result<u8, Failure> {
     match arguments::command(words)? {
         Command::Send(asked) => send::send(&asked),
-        Command::Receive(asked) => receive::receive(&asked),
-        Command::Inspect(asked) => inspect::inspect(&asked),
+        Command::Receive(mut asked) => receive::receive(&mut asked),
+        Command::Inspect(mut asked) => inspect::inspect(&mut asked),
         Command::Help => printing::print(&help::help()).map(|()| 0),
         Command::HelpOf(command) => printing::print(&help::help_of(command)).map(|()| 0),
         Command::Version => printing::print(VERSION).map(|()| 0),

@@ -8,6 +8,8 @@ use crate::captures::seen::PassedOver;
 use crate::captures::segments;
 use crate::errors::Failure;
 use crate::output::progress::Progress;
+use emupedestal::rtp::RedError;
+use emupedestal::rtp_receiver::NoMedia;
 use std::fmt;
 use std::net::IpAddr;
 use std::ops::ControlFlow;
@@ -50,9 +52,35 @@ pub struct Captured<'a> {
     pub time: u64,
     /// How much of its datagram the capture has; of one that isn't whole the payload is a front.
     pub part: Part,
-    /// Whether it was sent again, in a packet of RTX.
-    pub is_resent: bool,
+    /// The datagram as it came.
+    pub datagram: &'a [u8],
+    /// Its packet; once RTX and RED are undone, the one that it bears.
     pub rtp: Rtp<'a>,
+    /// Whether that was sent again, in a packet of RTX.
+    pub is_resent: bool,
+    pub bears: Bears,
+}
+
+/// What a packet bears of a stream.
+#[derive(Clone, Copy, PartialEq, Eq)]
+pub enum Bears {
+    Media,
+    /// Media of which the capture has only a front.
+    Front,
+    /// Nothing of the codec.
+    Nothing(NoMedia),
+    /// A redundant payload that is none.
+    Broken(RedError),
+}
+
+impl Captured<'_> {
+    /// Whether it is told of among the packets of the stream: it bears media, or is padding.
+    pub fn is_told(&self) -> bool {
+        !matches!(
+            self.bears,
+            Bears::Nothing(NoMedia::Fec | NoMedia::OtherPayloadType(_))
+        )
+    }
 }
 
 /// What is met in a capture.
@@ -117,8 +145,10 @@ fn each_of_datagram(
         let packet = Captured {
             time,
             part,
-            is_resent: false,
+            datagram: packet,
             rtp,
+            is_resent: false,
+            bears: Bears::Media,
         };
         if take(Met::Packet(&stream, datagram.from, &packet))?.is_break() {
             return Ok(ControlFlow::Break(()));

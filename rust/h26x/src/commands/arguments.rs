@@ -23,11 +23,9 @@ use std::net::SocketAddr;
 use std::path::{Path, PathBuf};
 
 /// The longest window, in packets.
-const LONGEST_WINDOW: u64 = 1024;
+pub const LONGEST_WINDOW: u16 = 1024;
 /// The longest wait, in milliseconds: a day.
 const MOST_WAIT: u64 = 86_400_000;
-/// How long a packet is waited for that may be sent again: some round trips.
-const RTX_WAIT: u32 = 1000;
 /// The longest time of a live stream, in seconds: a year.
 const MOST_SECONDS: f64 = 31_536_000.0;
 
@@ -71,12 +69,13 @@ pub struct Send {
 pub struct Looking {
     pub input: PathBuf,
     pub choice: Choice,
-    /// Whether the user says the codec, and not only a file's ending.
+    /// Whether the user says the codec, and not only a file's ending; and whether by --codec, and not by a description.
     pub is_codec_given: bool,
+    pub is_codec_option: bool,
     pub has_donl: bool,
-    pub window: u16,
-    /// For how many milliseconds a packet is waited for; `u32::MAX`: by the window alone.
-    pub wait: u32,
+    pub window: Option<u16>,
+    /// For how many milliseconds a packet is waited for.
+    pub wait: Option<u32>,
     /// For how many the first one waits for those before it.
     pub begin_wait: u32,
     pub run_limit: usize,
@@ -84,6 +83,10 @@ pub struct Looking {
     pub sets: Vec<Vec<u8>>,
     /// Payload types of retransmissions and redundant payloads, which are undone.
     pub types: PayloadTypes,
+    /// What is passed over of a session description, in words.
+    pub passed_over: Option<String>,
+    /// Others of its streams, one of which may be there instead.
+    pub others: Vec<Described>,
     /// For how many seconds a live stream is looked at.
     pub seconds: Option<f64>,
     /// The interface on which a group is joined.
@@ -160,6 +163,21 @@ fn completion(shell: Option<OsString>) -> Result<Command, Failure> {
         let shells = one_of_these(&completion::shells());
         Failure::usage(format!("say which shell: {shells}"))
     })
+}
+
+impl Looking {
+    /// Looks at the first of the other streams of a session description that is there.
+    pub fn choose_described(&mut self, is_there: impl Fn(u8) -> bool) {
+        if self.choice.payload_type.is_some_and(&is_there) {
+            return;
+        }
+        let others = std::mem::take(&mut self.others);
+        if let Some(it) = others.into_iter().find(|it| is_there(it.payload_type)) {
+            self.choice.payload_type = Some(it.payload_type);
+            (self.has_donl, self.sets) = (it.has_donl, it.sets);
+            self.passed_over = it.passed_over;
+        }
+    }
 }
 
 impl Words {
@@ -285,7 +303,11 @@ impl Words {
     }
 
     /// The stream of a session description that is one of those that are asked for.
-    fn described(&mut self, input: &Path, choice: &Choice) -> Result<Option<Described>, Failure> {
+    fn described(
+        &mut self,
+        input: &Path,
+        choice: &Choice,
+    ) -> Result<Option<(Described, Vec<Described>)>, Failure> {
         match self.value("--sdp") {
             Some(_) if choice.is_all => Err(Failure::usage(
                 "--all takes all streams, and --sdp describes one; leave one of them out",
@@ -314,31 +336,30 @@ impl Words {
             is_all,
         };
         let described = self.described(&input, &choice)?;
+        let (mut described, mut others) = described.unzip();
         if let Some(it) = &described {
             choice.codec = Some(it.codec);
             choice.payload_type = Some(it.payload_type);
             choice.port = choice.port.or(it.port);
         }
         let has_donl = self.donl(choice.codec)?;
+        for it in described.iter_mut().chain(others.iter_mut().flatten()) {
+            it.has_donl |= has_donl;
+        }
         let types = self.payload_types(described.as_ref())?;
-        let (window, wait) = match types.has_rtx() {
-            true => (LONGEST_WINDOW as u16, RTX_WAIT),
-            false => (32, u32::MAX),
-        };
         Ok(Looking {
             choice,
             is_codec_given: codec.is_some() || described.is_some(),
-            has_donl: has_donl || described.as_ref().is_some_and(|it| it.has_donl),
-            window: self
-                .number("--window", 0, LONGEST_WINDOW)?
-                .map_or(window, |it| it as u16),
-            wait: self
-                .number("--wait", 0, MOST_WAIT)?
-                .map_or(wait, |it| it as u32),
+            is_codec_option: codec.is_some(),
+            has_donl: described.as_ref().map_or(has_donl, |it| it.has_donl),
+            window: (self.number("--window", 0, LONGEST_WINDOW.into())?).map(|it| it as u16),
+            wait: self.number("--wait", 0, MOST_WAIT)?.map(|it| it as u32),
             types,
             begin_wait: self.number("--begin-wait", 0, MOST_WAIT)?.unwrap_or(0) as u32,
             run_limit: self.number("--run-limit", 1, 1 << 30)?.unwrap_or(16 << 20) as usize,
+            passed_over: described.as_mut().and_then(|it| it.passed_over.take()),
             sets: described.map(|it| it.sets).unwrap_or_default(),
+            others: others.unwrap_or_default(),
             seconds: self.seconds(&input)?,
             interface: self.interface(&input)?,
             input,
@@ -349,7 +370,7 @@ impl Words {
     fn payload_types(&mut self, described: Option<&Described>) -> Result<PayloadTypes, Failure> {
         let mut types = described.map(|it| it.types.clone()).unwrap_or_default();
         if let Some(value) = self.value("--rtx") {
-            if !types.add_rtx(&value) {
+            if !types.read_rtx(&value) {
                 return Err(Failure::usage(format!(
                     "--rtx {value}: give it as 97=96, where packets of payload type 97 send those of 96 again"
                 )));

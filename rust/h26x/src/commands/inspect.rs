@@ -9,15 +9,14 @@ use crate::output::html::Page;
 use crate::output::report::Report;
 use crate::output::standard;
 use crate::streams::chooser::{Known, Streams, choose};
-use crate::streams::originals::Originals;
 use crate::streams::reception::Reception;
 use std::io::{self, IsTerminal};
 use std::ops::ControlFlow;
 
 /// Inspects, and answers the status to end with.
-pub fn inspect(asked: &Inspect) -> Result<u8, Failure> {
+pub fn inspect(asked: &mut Inspect) -> Result<u8, Failure> {
     standard::check()?;
-    let looking = &asked.looking;
+    let looking = &mut asked.looking;
     let mut capture = Capture::open(looking)?;
     if looking.choice.is_all && capture.is_pipe() {
         let what = "inspect --all reads a capture once for each stream, and a pipe is read once; \
@@ -27,7 +26,7 @@ pub fn inspect(asked: &Inspect) -> Result<u8, Failure> {
     let streams = choose(&mut capture, looking)?;
     let page = asked.html.as_ref();
     let mut page = page
-        .map(|it| Page::create(it, &looking.input))
+        .map(|it| Page::create(it, &asked.looking.input))
         .transpose()?;
     let mut status = 0;
     for (at, known) in streams.chosen().enumerate() {
@@ -57,7 +56,7 @@ fn inspect_stream(
 ) -> Result<u8, Failure> {
     let looking = &asked.looking;
     let codec = codec_of(looking, known)?;
-    let mut reception = Reception::new(codec, known.stream.payload_type, looking, false);
+    let mut reception = Reception::new(codec, streams.session(&known.stream), looking, false);
     let mut report = Report::new(asked, codec);
     let printed = |error: io::Error| Failure::printing(&error);
     let beside = streams.named_beside(&known.stream);
@@ -65,17 +64,12 @@ fn inspect_stream(
     if let Some(told) = known.two_senders() {
         report.two_senders(&told).map_err(printed)?;
     }
-    let mut takers = streams.takers(&looking.types);
-    let mut originals = Originals::new(&looking.types);
+    let mut takers = streams.takers();
     let passed = each_packet(capture, what(asked), |met| {
         match met {
             Met::Packet(stream, _, packet) => {
-                let (stream, packet) = originals.of(stream, packet);
-                if takers.of(&stream).contains(&place) {
-                    if stream == known.stream && !packet.is_resent {
-                        report.come(&packet);
-                    }
-                    reception.take(&packet, &mut |told| report.tell(&told).map_err(printed))?;
+                if takers.of(stream, packet).contains(&place) {
+                    reception.take(packet, &mut |told| report.tell(&told).map_err(printed))?;
                 }
             }
             Met::Pause => report.pass_on().map_err(printed)?,
@@ -84,6 +78,7 @@ fn inspect_stream(
     })?;
     let mut tally = reception.finish(&mut |told| report.tell(&told).map_err(printed))?;
     tally.guise = known.guise();
+    tally.notes = streams.notes(&known.stream);
     if let Some(page) = page {
         report.draw(page, &known.stream, &tally, &passed);
     }

@@ -182,12 +182,13 @@ pub static GROUPS: [Group; 5] = [
                 "--rtx",
                 "N=PT",
                 "packets of payload type N send those of PT again (RTX, RFC 4588), as 97=96: they \
-                 are put in their places",
+                 are put in their places (those that look so)",
             ),
             with(
                 "--red",
                 "N",
-                "packets of payload type N are redundant (RED, RFC 2198): the primary block is taken",
+                "packets of payload type N are redundant (RED, RFC 2198): the primary block is taken \
+                 (those that look so)",
             ),
             flag(
                 "--all",

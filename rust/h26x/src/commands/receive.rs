@@ -9,23 +9,21 @@ use crate::output::printing::say;
 use crate::output::recording::Recording;
 use crate::streams::chooser::{Known, Streams, choose};
 use crate::streams::codecs::{name, word};
-use crate::streams::originals::Originals;
+use crate::streams::guises::Guise;
 use emupedestal::Codec;
 use std::ops::ControlFlow;
 
 /// Receives, and answers the status to end with.
-pub fn receive(asked: &Receive) -> Result<u8, Failure> {
+pub fn receive(asked: &mut Receive) -> Result<u8, Failure> {
     let mut capture = Capture::open(&asked.looking)?;
-    let streams = choose(&mut capture, &asked.looking)?;
+    let streams = choose(&mut capture, &mut asked.looking)?;
     let mut recordings = begin(asked, &streams)?;
-    let mut takers = streams.takers(&asked.looking.types);
-    let mut originals = Originals::new(&asked.looking.types);
+    let mut takers = streams.takers();
     let passed = each_packet(&mut capture, Some("receiving"), |met| {
         match met {
             Met::Packet(stream, _, packet) => {
-                let (stream, packet) = originals.of(stream, packet);
-                for at in takers.of(&stream) {
-                    recordings[*at].take(&packet)?;
+                for at in takers.of(stream, packet) {
+                    recordings[*at].take(packet)?;
                 }
             }
             Met::Pause => recordings.iter_mut().try_for_each(Recording::pass_on)?,
@@ -41,8 +39,9 @@ fn begin(asked: &Receive, streams: &Streams) -> Result<Vec<Recording>, Failure> 
     for known in streams.chosen() {
         let codec = codec_of(&asked.looking, known)?;
         check_codec(&asked.looking, codec, known)?;
-        let recording = Recording::new(asked, codec, known)?;
+        let recording = Recording::new(asked, codec, known, streams)?;
         say(&format!("receiving {}", recording.named()));
+        streams.notes(&known.stream).iter().for_each(|it| say(it));
         known.two_senders().iter().for_each(|it| say(it));
         recordings.push(recording);
     }
@@ -103,6 +102,12 @@ pub fn check_codec(looking: &Looking, codec: Codec, known: &Known) -> Result<(),
     let likeness = &known.likeness;
     let packets = likeness.all();
     let what = match likeness.other_than(codec) {
+        _ if known.guise() == Some(Guise::Encrypted) && !looking.is_codec_option => format!(
+            "the payloads of {} look as {}: {}",
+            known.stream,
+            Guise::Encrypted,
+            Guise::Encrypted.advice()
+        ),
         Some(other) => format!(
             "this stream is no {}: {} of its {packets} packets look as those of {} do; say \
              --codec {}",

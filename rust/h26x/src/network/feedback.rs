@@ -1,9 +1,19 @@
-//! What a receiver of live streams says to their senders: reports (RFC 3550, 6.4.2 and A.3), lost packets that
-//! it asks for again, and a keyframe where they don't come (RFC 4585, 6.2.1 and 6.3.1).
+//! What a receiver of live streams says to their senders: reports (RFC 3550, 6.4.2), lost packets that it asks for again,
+//! and a keyframe where no decoder can go on (RFC 4585, 6.2.1 and 6.3.1), as an `RtpReceiver` of each tells them.
 
-use crate::captures::rtp::Rtp;
-use crate::network::rtcp::{Block, Compound, Read};
-use crate::streams::rates::{Jitter, TICKS_A_SECOND};
+use crate::captures::packets::{Captured, Stream};
+use crate::commands::arguments::Looking;
+use crate::network::rtcp::{Compound, Read};
+use crate::streams::chooser::primary;
+use crate::streams::codecs::{CODECS, Likeness, is_usual};
+use crate::streams::guesses::Types;
+use crate::streams::rates::ticks;
+use crate::streams::repairs::Repairs;
+use crate::streams::sets::are_enough;
+use crate::streams::undone::Session;
+use emupedestal::Codec;
+use emupedestal::access_unit_receiver::{AccessUnitConfig, NackTimes};
+use emupedestal::rtp_receiver::RtpReceiver;
 use std::net::SocketAddr;
 use std::time::{Duration, Instant};
 
@@ -12,15 +22,20 @@ const MOST: usize = 16;
 /// Between reports, and before the first (RFC 3550, 6.2).
 const PAUSE: Duration = Duration::from_secs(5);
 const FIRST: Duration = Duration::from_millis(2500);
-/// How long a missing packet may come by itself, and how long between two requests for it.
-const PATIENCE: Duration = Duration::from_millis(20);
-const AGAIN: Duration = Duration::from_millis(100);
-/// So often it is asked for, and so many are waited for at a time; a greater gap wants a keyframe.
-const TRIES: u8 = 3;
+/// In milliseconds: how long a missing packet may come by itself, and how long between two requests for it; how often it
+/// is asked for, and how many are at a time.
+const TIMES: NackTimes = NackTimes {
+    first: 20,
+    again: 100,
+    most: 3,
+};
 const MOST_MISSING: usize = 64;
+/// How long a packet is waited for: until it was asked for as often, and could come.
+const WAIT: u32 = TIMES.first + TIMES.most as u32 * TIMES.again;
 /// Between two requests for a keyframe.
-const KEYFRAMES: Duration = Duration::from_secs(1);
-const FAR: u16 = 3000;
+const KEYFRAMES: u32 = 1000;
+/// So many packets tell whether they are of a codec.
+const TELLING: u64 = 16;
 
 /// Where to answer: by which socket, and to whom.
 #[derive(Clone, Copy, PartialEq, Eq, Debug)]
@@ -29,70 +44,119 @@ pub struct Way {
     pub to: SocketAddr,
 }
 
-/// A packet that is missing.
-struct Missing {
-    sequence: u16,
-    next: Instant,
-    tries: u8,
+/// When a packet came, by the clocks of a receiver.
+#[derive(Clone, Copy)]
+struct Ticks {
+    /// In milliseconds.
+    now: u32,
+    /// In ticks of timestamps.
+    arrival: u32,
 }
 
 struct Sender {
-    ssrc: u32,
+    session: Session,
     way: Way,
-    first: u32,
-    highest: u32,
-    received: u32,
-    /// What was expected and received at the last report.
-    before: (u32, u32),
-    jitter: Jitter,
     /// The middle of the time in its last report, and when that came.
     report: Option<(u32, Instant)>,
-    missing: Vec<Missing>,
-    keyframe: Option<Instant>,
-    wants_keyframe: bool,
+    codec: Codec,
+    receiver: RtpReceiver,
+    likeness: Likeness,
+    /// Whether it sends packets of another one again: none of its own is asked for (RFC 4588, 6).
+    is_of_again: bool,
 }
 
 pub struct Feedback {
     own: u32,
+    codec: Option<Codec>,
+    /// The payload type of the codec, where it is said.
+    media: Option<u8>,
+    has_donl: bool,
+    config: AccessUnitConfig,
+    types: Types,
+    repairs: Repairs,
     senders: Vec<Sender>,
+    begin: Instant,
     next: Instant,
 }
 
 impl Feedback {
     /// `own` is the SSRC that it speaks as.
-    pub fn new(own: u32, now: Instant) -> Self {
+    pub fn new(own: u32, looking: &Looking, now: Instant) -> Self {
+        let (types, codec) = (Types::said(&looking.types), looking.choice.codec);
         Feedback {
             own,
+            codec,
+            media: looking.choice.payload_type,
+            has_donl: looking.has_donl,
+            config: AccessUnitConfig {
+                max_wait: WAIT,
+                has_sets: codec.is_some_and(|it| are_enough(it, &looking.sets)),
+                ..AccessUnitConfig::default()
+            },
+            repairs: Repairs::new(&types),
+            types,
             senders: Vec::new(),
+            begin: now,
             next: now + FIRST,
         }
     }
 
-    /// A packet came from there, at this time in nanoseconds.
-    pub fn come(&mut self, rtp: &Rtp<'_>, from: SocketAddr, nanos: u64, now: Instant) {
-        let known = self.senders.iter().position(|it| it.ssrc == rtp.ssrc);
-        let sender = match known {
-            Some(at) => &mut self.senders[at],
-            None if self.senders.len() == MOST => return,
-            None => {
-                self.senders.push(Sender::new(rtp, from));
-                let last = self.senders.len() - 1;
-                &mut self.senders[last]
-            }
+    /// A packet came from there.
+    pub fn come(&mut self, stream: &Stream, packet: &Captured<'_>, from: SocketAddr, now: Instant) {
+        self.repairs.follow(stream, packet);
+        let ticks = Ticks {
+            now: self.tick(now),
+            arrival: ticks(packet.time),
         };
-        sender.come(rtp, nanos, now);
+        let (of_it, rtp) = primary(self.types.at(stream.to), stream, &packet.rtp);
+        if !self.senders.iter().any(|it| it.session.ssrc == stream.ssrc)
+            && self.senders.len() < MOST
+        {
+            let sender = self.sender(&of_it, rtp.payload, from);
+            self.senders.push(sender);
+        }
+        let repaired = self.repairs.repaired_by(stream).map(|it| it.0);
+        for sender in &mut self.senders {
+            let is_its = sender.session.ssrc == stream.ssrc;
+            if is_its {
+                sender.likeness.add(rtp.payload);
+            }
+            if is_its || Some(sender.session.ssrc) == repaired {
+                sender.take(packet, ticks);
+            }
+        }
     }
 
-    /// A stream sent a packet of another one again: that isn't missing there any more, and none of its own is asked for
-    /// (RFC 4588, 6).
-    pub fn come_again(&mut self, by: u32, of: u32, sequence: u16) {
-        for sender in &mut self.senders {
-            if sender.ssrc == by {
-                sender.missing.clear();
-                sender.wants_keyframe = false;
-            } else if sender.ssrc == of {
-                sender.missing.retain(|it| it.sequence != sequence);
-            }
+    fn tick(&self, now: Instant) -> u32 {
+        now.duration_since(self.begin).as_millis() as u32
+    }
+
+    /// A sender whose first packet is of this stream, RED undone, and bears this.
+    fn sender(&self, stream: &Stream, payload: &[u8], from: SocketAddr) -> Sender {
+        let likely = || CODECS.into_iter().rev().find(|it| is_usual(*it, payload));
+        let codec = self.codec.or_else(likely).unwrap_or(Codec::H264);
+        let types = self.types.at(stream.to);
+        let media = self.media.filter(|_| types.is_fec(stream.payload_type));
+        let session = Session {
+            types: types.of_stream(media.unwrap_or(stream.payload_type)),
+            ssrc: stream.ssrc,
+        };
+        let types = session.types;
+        let mut receiver =
+            RtpReceiver::with_settings(codec, self.has_donl, false, types, self.config);
+        receiver.follow(session.sources());
+        Sender {
+            session,
+            // Until it says where, the port behind that of its packets (RFC 3550, 11).
+            way: Way {
+                is_muxed: false,
+                to: SocketAddr::new(from.ip(), from.port().saturating_add(1)),
+            },
+            report: None,
+            codec,
+            receiver,
+            likeness: Likeness::default(),
+            is_of_again: self.repairs.is_of_again(stream),
         }
     }
 
@@ -102,7 +166,11 @@ impl Feedback {
             let Read::Sender { ssrc, time } = read else {
                 continue;
             };
-            for sender in self.senders.iter_mut().filter(|it| it.ssrc == *ssrc) {
+            for sender in self
+                .senders
+                .iter_mut()
+                .filter(|it| it.session.ssrc == *ssrc)
+            {
                 sender.report = Some((*time, now));
                 sender.way = way;
             }
@@ -115,12 +183,10 @@ impl Feedback {
         if is_report {
             self.next = now + PAUSE;
         }
-        let own = self.own;
-        let said = self
-            .senders
-            .iter_mut()
-            .filter_map(|it| it.due(own, is_report, now));
-        said.collect()
+        let (own, tick) = (self.own, self.tick(now));
+        let said = self.senders.iter_mut();
+        said.filter_map(|it| it.due(own, is_report, now, tick))
+            .collect()
     }
 
     /// The last words.
@@ -129,7 +195,7 @@ impl Feedback {
         let ends = self.senders.iter().map(|it| {
             let mut compound = Compound::default();
             compound
-                .receiver(own, &[])
+                .receiver(own, None)
                 .name(own, &name(own))
                 .goodbye(own);
             (it.way, compound)
@@ -144,249 +210,194 @@ pub fn name(ssrc: u32) -> String {
 }
 
 impl Sender {
-    fn new(rtp: &Rtp<'_>, from: SocketAddr) -> Self {
-        let first = u32::from(rtp.sequence);
-        Sender {
-            ssrc: rtp.ssrc,
-            // Until it says where, the port behind that of its packets (RFC 3550, 11).
-            way: Way {
-                is_muxed: false,
-                to: SocketAddr::new(from.ip(), from.port().saturating_add(1)),
-            },
-            first,
-            highest: first.wrapping_sub(1),
-            received: 0,
-            before: (0, 0),
-            jitter: Jitter::default(),
-            report: None,
-            missing: Vec::new(),
-            keyframe: None,
-            wants_keyframe: false,
+    fn take(&mut self, packet: &Captured<'_>, ticks: Ticks) {
+        // Where there is no memory, or it is no packet of it, nothing is asked for.
+        let _ = self
+            .receiver
+            .push(ticks.now, ticks.arrival, &self.session.with_ssrc(packet));
+        self.pass_units(ticks.now);
+    }
+
+    /// Passes over access units, of which it is counted whether a decoder can go on behind them.
+    fn pass_units(&mut self, now: u32) {
+        while let Ok(Some(unit)) = self.receiver.next(now) {
+            self.receiver.give_back(unit);
         }
     }
 
-    fn come(&mut self, rtp: &Rtp<'_>, nanos: u64, now: Instant) {
-        let ahead = rtp.sequence.wrapping_sub(self.highest as u16);
-        if (FAR..=FAR.wrapping_neg()).contains(&ahead) {
-            // A stray, or a sender that begins anew: it is counted from here on.
-            self.first = rtp.sequence.into();
-            self.highest = self.first.wrapping_sub(1);
-            (self.received, self.before) = (0, (0, 0));
-            self.missing.clear();
+    fn due(
+        &mut self,
+        own: u32,
+        is_report: bool,
+        now: Instant,
+        tick: u32,
+    ) -> Option<(Way, Compound)> {
+        self.pass_units(tick);
+        let mut asked = Vec::new();
+        if !self.is_of_again {
+            asked = self
+                .receiver
+                .nacks(tick, TIMES, MOST_MISSING)
+                .unwrap_or_default();
         }
-        self.received = self.received.wrapping_add(1);
-        self.jitter.add(nanos, rtp.timestamp);
-        self.missing.retain(|it| it.sequence != rtp.sequence);
-        let ahead = rtp.sequence.wrapping_sub(self.highest as u16);
-        if (1..FAR).contains(&ahead) {
-            self.miss(ahead - 1, now);
-            self.highest = self.highest.wrapping_add(ahead.into());
-        }
-    }
-
-    /// So many packets behind the highest number are missing.
-    fn miss(&mut self, count: u16, now: Instant) {
-        if usize::from(count) + self.missing.len() > MOST_MISSING {
-            self.missing.clear();
-            self.wants_keyframe = true;
-            return;
-        }
-        let highest = self.highest as u16;
-        self.missing.extend((1..=count).map(|it| Missing {
-            sequence: highest.wrapping_add(it),
-            next: now + PATIENCE,
-            tries: 0,
-        }));
-    }
-
-    fn due(&mut self, own: u32, is_report: bool, now: Instant) -> Option<(Way, Compound)> {
-        let asked = self.asked(now);
-        let is_given_up = |it: &Missing| it.tries == TRIES && now >= it.next;
-        let before = self.missing.len();
-        self.missing.retain(|it| !is_given_up(it));
-        self.wants_keyframe |= self.missing.len() < before;
-        let is_calm = self.keyframe.is_none_or(|it| now >= it + KEYFRAMES);
-        let asks_keyframe = is_calm && std::mem::take(&mut self.wants_keyframe);
-        if !is_report && asked.is_empty() && !asks_keyframe {
+        let is_of_codec = self.likeness.all() >= TELLING && self.likeness.is_likely(self.codec);
+        let wants_keyframe =
+            is_of_codec && !self.is_of_again && self.receiver.keyframe_wanted(tick, KEYFRAMES);
+        if !is_report && asked.is_empty() && !wants_keyframe {
             return None;
         }
+        let (last, since) = self.report.unwrap_or((0, now));
+        let delay = now.duration_since(since).as_millis() * 65536 / 1000;
+        let report = |it: &mut RtpReceiver| it.report(last, delay.min(u32::MAX.into()) as u32);
+        let block = is_report.then(|| report(&mut self.receiver)).flatten();
         let mut compound = Compound::default();
-        let blocks: Vec<Block> = is_report.then(|| self.block(now)).into_iter().collect();
-        compound.receiver(own, &blocks).name(own, &name(own));
+        compound.receiver(own, block).name(own, &name(own));
         if !asked.is_empty() {
-            compound.nack(own, self.ssrc, &asked);
+            compound.nack(own, self.session.ssrc, &asked);
         }
-        if asks_keyframe {
-            self.keyframe = Some(now);
-            compound.pli(own, self.ssrc);
+        if wants_keyframe {
+            compound.pli(own, self.session.ssrc);
         }
         Some((self.way, compound))
-    }
-
-    /// The packets that are to be asked for now.
-    fn asked(&mut self, now: Instant) -> Vec<u16> {
-        let due = self
-            .missing
-            .iter_mut()
-            .filter(|it| it.tries < TRIES && now >= it.next);
-        due.map(|it| {
-            it.tries += 1;
-            it.next = now + AGAIN;
-            it.sequence
-        })
-        .collect()
-    }
-
-    /// The report (RFC 3550, A.3).
-    fn block(&mut self, now: Instant) -> Block {
-        let expected = self.highest.wrapping_sub(self.first).wrapping_add(1);
-        let (expected_before, received_before) = self.before;
-        let of_these = expected.wrapping_sub(expected_before);
-        let lost = of_these.saturating_sub(self.received.wrapping_sub(received_before));
-        self.before = (expected, self.received);
-        let since = self
-            .report
-            .map(|it| now.duration_since(it.1).as_millis() * 65536 / 1000);
-        Block {
-            ssrc: self.ssrc,
-            fraction: (u64::from(lost) * 256 / u64::from(of_these.max(1))).min(255) as u8,
-            lost: expected.wrapping_sub(self.received) as i32,
-            highest: self.highest,
-            jitter: (self.jitter.seconds() * TICKS_A_SECOND) as u32,
-            last_report: self.report.map_or(0, |it| it.0),
-            since: since.map_or(0, |it| it.min(u32::MAX.into()) as u32),
-        }
     }
 }
 
 #[cfg(test)]
 mod tests {
     use super::*;
+    use crate::captures::ip::Part;
+    use crate::captures::packets::Bears;
+    use crate::captures::rtp::rtp;
+    use crate::commands::arguments::{Command, command};
 
-    fn packet(sequence: u16, timestamp: u32) -> Rtp<'static> {
-        Rtp {
-            marker: true,
-            payload_type: 96,
-            sequence,
-            timestamp,
-            ssrc: 9,
-            extension: None,
-            payload: &[0x41, 1],
-            padding: 0,
-        }
+    fn feedback(options: &[&str], begin: Instant) -> Feedback {
+        let words = [&["inspect", "udp://:5004", "--codec", "h264"], options].concat();
+        let words = words.iter().map(|it| (*it).into()).collect();
+        let Ok(Command::Inspect(asked)) = command(words) else {
+            panic!("a command");
+        };
+        Feedback::new(7, &asked.looking, begin)
     }
 
-    /// Packets, one each millisecond.
-    fn come(feedback: &mut Feedback, begin: Instant, sequences: &[u16]) {
+    /// Takes a datagram of SSRC 9 that came after so many milliseconds.
+    fn come(feedback: &mut Feedback, begin: Instant, millis: u64, datagram: &[u8]) {
         let from: SocketAddr = "192.0.2.1:5004".parse().expect("an address");
+        let rtp = rtp(datagram).expect("a packet");
+        let stream = Stream {
+            ssrc: rtp.ssrc,
+            payload_type: rtp.payload_type,
+            to: ("192.0.2.2".parse().expect("an address"), 5004),
+        };
+        let packet = Captured {
+            time: millis * 1_000_000,
+            part: Part::Whole,
+            datagram,
+            rtp,
+            is_resent: false,
+            bears: Bears::Media,
+        };
+        let now = begin + Duration::from_millis(millis);
+        feedback.come(&stream, &packet, from, now);
+    }
+
+    /// A picture in a packet; the first of them has parameter sets and is a keyframe.
+    fn picture(sequence: u16, first: u16) -> Vec<u8> {
+        let mut datagram = vec![0x80, 0x80 | 96];
+        datagram.extend(sequence.to_be_bytes());
+        datagram.extend((u32::from(sequence.wrapping_sub(first)) * 90).to_be_bytes());
+        datagram.extend([0, 0, 0, 9]);
+        match sequence == first {
+            true => datagram.extend([
+                0x78, 0, 4, 0x67, 0x42, 0xc0, 0x1f, 0, 2, 0x68, 0xce, 0, 2, 0x65, 0x88,
+            ]),
+            false => datagram.extend([0x41, 0x9a]),
+        }
+        datagram
+    }
+
+    /// Pictures, one each millisecond.
+    fn pictures(feedback: &mut Feedback, begin: Instant, sequences: &[u16]) {
         for (millis, sequence) in (0..).zip(sequences) {
-            let now = begin + Duration::from_millis(millis);
-            let packet = packet(*sequence, millis as u32 * 90);
-            feedback.come(&packet, from, millis * 1_000_000, now);
+            come(feedback, begin, millis, &picture(*sequence, sequences[0]));
         }
     }
 
     fn said(feedback: &mut Feedback, now: Instant) -> Vec<Read> {
         let due = feedback.due(now);
-        due.iter()
-            .flat_map(|it| crate::network::rtcp::read(it.1.bytes()))
-            .collect()
+        let read = due
+            .iter()
+            .map(|it| crate::network::rtcp::read(it.1.bytes()));
+        read.flatten().collect()
     }
 
     /// Ten numbers, of which two never came: a fraction of 2/10, in 256 parts 51 (RFC 3550, A.3).
     #[test]
     fn reports() {
         let begin = Instant::now();
-        let mut feedback = Feedback::new(7, begin);
-        come(
-            &mut feedback,
-            begin,
-            &[65530, 65531, 65533, 65535, 0, 1, 2, 3],
-        );
+        let mut feedback = feedback(&[], begin);
+        let came = [65530, 65531, 65533, 65535, 0, 1, 2, 3];
+        pictures(&mut feedback, begin, &came);
         let way = Way {
             is_muxed: true,
             to: "192.0.2.1:7".parse().expect("an address"),
         };
         feedback.read(&[Read::Sender { ssrc: 9, time: 5 }], way, begin);
-        feedback.senders[0].missing.clear();
         let due = feedback.due(begin + FIRST);
         assert_eq!((due.len(), due[0].0), (1, way));
-        let Some(Read::Block(block)) = crate::network::rtcp::read(due[0].1.bytes())
-            .into_iter()
-            .next()
-        else {
-            panic!("a report");
-        };
-        assert_eq!((block.ssrc, block.fraction, block.lost), (9, 51, 2));
-        assert_eq!((block.highest, block.jitter), (0x1_0003, 0));
-        assert_eq!((block.last_report, block.since), (5, 65536 * 5 / 2));
-        assert!(said(&mut feedback, begin + FIRST + PAUSE / 2).is_empty());
-        // Of the next two one is lost: half of 256 parts.
-        come(&mut feedback, begin + FIRST + PAUSE, &[5]);
-        feedback.senders[0].missing.clear();
-        let due = said(&mut feedback, begin + FIRST + PAUSE);
-        let Some(Read::Block(block)) = due.first() else {
-            panic!("a report");
-        };
-        assert_eq!((block.fraction, block.lost), (128, 3));
+        let report = emupedestal::rtp::ReceiverReport::read(&due[0].1.bytes()[..32]);
+        let block = report.expect("a report").block;
+        assert_eq!((block.ssrc, block.fraction_lost, block.lost), (9, 51, 2));
+        assert_eq!(block.highest, 0x1_0003);
+        assert_eq!((block.last_sender_report, block.delay), (5, 65536 * 5 / 2));
+        let later = feedback.due(begin + FIRST + PAUSE / 2);
+        assert!(
+            later
+                .iter()
+                .all(|it| it.1.bytes()[1] != 201 || it.1.bytes()[0] == 0x80)
+        );
     }
 
     /// A missing packet is asked for three times, then a keyframe; one that comes isn't asked for again.
     #[test]
     fn missing_packets() {
         let begin = Instant::now();
-        let mut feedback = Feedback::new(7, begin);
-        come(&mut feedback, begin, &[1, 2, 4, 6]);
+        let mut feedback = feedback(&[], begin);
+        let mut came: Vec<u16> = (1..=20).collect();
+        came.extend([22, 24]);
+        pictures(&mut feedback, begin, &came);
         let at = |millis| begin + Duration::from_millis(millis);
         let nack = |sequences: &[u16]| {
             let sequences = sequences.to_vec();
             vec![Read::Nack { ssrc: 9, sequences }]
         };
-        assert_eq!(said(&mut feedback, at(10)), []);
-        assert_eq!(said(&mut feedback, at(40)), nack(&[3, 5]));
-        assert_eq!(said(&mut feedback, at(50)), []);
-        come(&mut feedback, at(60), &[3]);
-        assert_eq!(said(&mut feedback, at(150)), nack(&[5]));
-        assert_eq!(said(&mut feedback, at(260)), nack(&[5]));
-        assert_eq!(said(&mut feedback, at(370)), [Read::Pli { ssrc: 9 }]);
+        assert_eq!(said(&mut feedback, at(22)), []);
+        assert_eq!(said(&mut feedback, at(60)), nack(&[21, 23]));
+        assert_eq!(said(&mut feedback, at(70)), []);
+        come(&mut feedback, begin, 80, &picture(21, 1));
+        assert_eq!(said(&mut feedback, at(170)), nack(&[23]));
+        assert_eq!(said(&mut feedback, at(280)), nack(&[23]));
+        assert_eq!(said(&mut feedback, at(390)), [Read::Keyframe { ssrc: 9 }]);
         assert_eq!(said(&mut feedback, at(1000)), []);
+        assert_eq!(said(&mut feedback, at(1400)), [Read::Keyframe { ssrc: 9 }]);
     }
 
     /// What RTX sends again isn't missing any more, and of RTX itself nothing is asked for.
     #[test]
     fn packets_that_come_again() {
         let begin = Instant::now();
-        let mut feedback = Feedback::new(7, begin);
-        come(&mut feedback, begin, &[1, 2, 4, 6]);
-        let from: SocketAddr = "192.0.2.1:5004".parse().expect("an address");
+        let mut feedback = feedback(&["--rtx", "97=96"], begin);
+        let mut came: Vec<u16> = (1..=20).collect();
+        came.extend([22, 24]);
+        pictures(&mut feedback, begin, &came);
         for sequence in [70, 72] {
-            let of_rtx = Rtp {
-                ssrc: 8,
-                ..packet(sequence, 0)
-            };
-            feedback.come(&of_rtx, from, 0, begin);
-            feedback.come_again(8, 9, 3);
+            let mut again = picture(21, 1);
+            again.splice(12..12, [0, 21]);
+            (again[1], again[3], again[11]) = (97, sequence, 8);
+            come(&mut feedback, begin, 30, &again);
         }
-        let later = begin + PATIENCE * 2;
-        let sequences = vec![5];
-        assert_eq!(
-            said(&mut feedback, later),
-            [Read::Nack { ssrc: 9, sequences }]
-        );
-    }
-
-    /// A gap that is too long to be filled wants a keyframe, and once a second at most.
-    #[test]
-    fn long_gaps() {
-        let begin = Instant::now();
-        let mut feedback = Feedback::new(7, begin);
-        come(&mut feedback, begin, &[1, 100]);
-        assert_eq!(said(&mut feedback, begin), [Read::Pli { ssrc: 9 }]);
-        come(&mut feedback, begin, &[200]);
-        assert_eq!(said(&mut feedback, begin + KEYFRAMES / 2), []);
-        assert_eq!(
-            said(&mut feedback, begin + KEYFRAMES),
-            [Read::Pli { ssrc: 9 }]
-        );
+        let _ = said(&mut feedback, begin + Duration::from_millis(40));
+        let sequences = vec![23];
+        let said = said(&mut feedback, begin + Duration::from_millis(80));
+        assert_eq!(said, [Read::Nack { ssrc: 9, sequences }]);
     }
 }

@@ -2,8 +2,8 @@
 //! by RTCP.
 
 use crate::captures::ip::Part;
-use crate::captures::packets::{Captured, Stream};
-use crate::captures::rtp::{Rtp, rtp};
+use crate::captures::packets::{Bears, Captured, Stream};
+use crate::captures::rtp::rtp;
 use crate::commands::arguments::Looking;
 use crate::errors::Failure;
 use crate::network::address::{canonical, to_listen};
@@ -11,7 +11,6 @@ use crate::network::feedback::{Feedback, Way};
 use crate::network::rtcp;
 use crate::network::sockets::Sockets;
 use crate::output::parts;
-use crate::streams::originals::Originals;
 use crate::streams::seed::Drawn;
 use emupedestal::rtp::is_rtcp;
 use std::collections::HashMap;
@@ -46,8 +45,7 @@ pub fn listen(looking: &Looking) -> Result<File, Failure> {
     let (from, into) = UnixStream::pair().map_err(failed)?;
     let begin = Instant::now();
     let mut listener = Listener {
-        feedback: Feedback::new(Drawn::of(None).ssrc, begin),
-        originals: Originals::new(&looking.types),
+        feedback: Feedback::new(Drawn::of(None).ssrc, looking, begin),
         is_over: parts::first_signal(),
         end: looking
             .seconds
@@ -72,7 +70,6 @@ struct Listener {
     /// The address here that packets from another come to.
     ways: HashMap<IpAddr, IpAddr>,
     feedback: Feedback,
-    originals: Originals,
     is_over: Arc<AtomicBool>,
     end: Option<Instant>,
     into: BufWriter<UnixStream>,
@@ -114,9 +111,20 @@ impl Listener {
         if is_rtcp(datagram) {
             self.read(datagram, true, from);
         } else if let Some(rtp) = rtp(datagram) {
-            let nanos = time.as_nanos() as u64;
-            self.feedback.come(&rtp, from, nanos, Instant::now());
-            self.undo(&rtp, to);
+            let stream = Stream {
+                ssrc: rtp.ssrc,
+                payload_type: rtp.payload_type,
+                to: (to, self.to.port()),
+            };
+            let packet = Captured {
+                time: time.as_nanos() as u64,
+                part: Part::Whole,
+                datagram,
+                rtp,
+                is_resent: false,
+                bears: Bears::Media,
+            };
+            self.feedback.come(&stream, &packet, from, Instant::now());
         }
         let frame = headers((source, port), (to, self.to.port()), datagram.len());
         let len = (frame.len() + datagram.len()) as u32;
@@ -125,26 +133,6 @@ impl Listener {
         }
         self.into.write_all(&frame)?;
         self.into.write_all(datagram)
-    }
-
-    /// Looks whether a packet sends another one again.
-    fn undo(&mut self, rtp: &Rtp<'_>, to: IpAddr) {
-        let stream = Stream {
-            ssrc: rtp.ssrc,
-            payload_type: rtp.payload_type,
-            to: (to, self.to.port()),
-        };
-        let packet = Captured {
-            time: 0,
-            part: Part::Whole,
-            is_resent: false,
-            rtp: *rtp,
-        };
-        let (of, original) = self.originals.of(&stream, &packet);
-        if original.is_resent {
-            let sequence = original.rtp.sequence;
-            self.feedback.come_again(rtp.ssrc, of.ssrc, sequence);
-        }
     }
 
     fn read(&mut self, datagram: &[u8], is_muxed: bool, from: SocketAddr) {

@@ -153,7 +153,7 @@ impl Transmission {
             for read in rtcp::read(&datagram[..len]) {
                 match read {
                     Read::Nack { ssrc, sequences } if ssrc == self.ssrc => self.resend(&sequences),
-                    Read::Pli { ssrc } if ssrc == self.ssrc => self.keyframes_asked += 1,
+                    Read::Keyframe { ssrc } if ssrc == self.ssrc => self.keyframes_asked += 1,
                     _ => {}
                 }
             }

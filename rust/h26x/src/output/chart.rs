@@ -122,7 +122,7 @@ impl Chart {
     }
 
     /// A packet came, in the order of the capture.
-    pub fn come(&mut self, packet: &Captured<'_>) {
+    fn come(&mut self, packet: &Captured<'_>) {
         self.jitter.come(packet);
         let jitter = self.jitter.seconds();
         let part = self.part(packet.time);
@@ -131,6 +131,7 @@ impl Chart {
 
     pub fn tell(&mut self, told: &Told<'_>) {
         match told {
+            Told::Came(packet) => self.come(packet),
             Told::Packet(packet, fate) => self.packet(packet, fate),
             Told::Unit(unit, time) => self.unit(unit, *time),
             Told::Twice(_) | Told::Again(_) => self.count(self.time, Of::Repeated, 1),

@@ -156,6 +156,7 @@ pub fn totals(tally: &Tally, told: &[String]) -> Value {
             "recovered": tally.recovered,
             "again": tally.again,
             "fec": tally.fec,
+            "other": tally.other,
             "moved": tally.moved,
             "strays": tally.strays,
             "anew": tally.anew,

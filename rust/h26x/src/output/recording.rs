@@ -6,7 +6,7 @@ use crate::errors::{Failure, INCOMPLETE};
 use crate::output::file::Output;
 use crate::output::printing::{say, shown};
 use crate::output::writer::Writer;
-use crate::streams::chooser::{Known, counted};
+use crate::streams::chooser::{Known, Streams, counted};
 use crate::streams::codecs::{name, word};
 use crate::streams::guises::Guise;
 use crate::streams::reception::Reception;
@@ -27,18 +27,23 @@ pub struct Recording {
 }
 
 impl Recording {
-    pub fn new(asked: &Receive, codec: Codec, known: &Known) -> Result<Self, Failure> {
+    pub fn new(
+        asked: &Receive,
+        codec: Codec,
+        known: &Known,
+        streams: &Streams,
+    ) -> Result<Self, Failure> {
         let Looking { input, choice, .. } = &asked.looking;
         let path = match choice.is_all {
             true => asked.output.join(file_name(&known.stream, codec)),
             false => asked.output.clone(),
         };
-        let payload_type = known.stream.payload_type;
+        let session = streams.session(&known.stream);
         let has_lengths = asked.written.has_lengths();
         Ok(Recording {
             codec,
             stream: known.stream,
-            reception: Reception::new(codec, payload_type, &asked.looking, has_lengths),
+            reception: Reception::new(codec, session, &asked.looking, has_lengths),
             writer: Writer::new(asked, codec, &path),
             output: Output::create(&path, input)?,
             path,
@@ -60,7 +65,7 @@ impl Recording {
         }
     }
 
-    /// Takes a packet that is numbered with those of the stream.
+    /// Takes a packet that is numbered with those of the stream, or sends one of these again.
     pub fn take(&mut self, packet: &Captured<'_>) -> Result<(), Failure> {
         let Recording {
             reception,

@@ -85,11 +85,6 @@ impl Report {
         }
     }
 
-    /// A packet came, in the order of the capture.
-    pub fn come(&mut self, packet: &Captured<'_>) {
-        self.chart.iter_mut().for_each(|it| it.come(packet));
-    }
-
     pub fn tell(&mut self, told: &Told<'_>) -> io::Result<()> {
         self.chart.iter_mut().for_each(|it| it.tell(told));
         match self.form {
@@ -98,6 +93,7 @@ impl Report {
             Form::Lines => {}
         }
         match told {
+            Told::Came(_) => Ok(()),
             Told::Packet(packet, fate) => self.packet(packet, fate),
             Told::Unit(unit, _) => writeln!(self.to, "      = {}", about_unit(unit)),
             Told::Twice(sequence) => self.note(&format!("{sequence} came twice")),
@@ -109,6 +105,7 @@ impl Report {
 
     fn tell_json(&mut self, told: &Told<'_>) -> io::Result<()> {
         match told {
+            Told::Came(_) => Ok(()),
             Told::Packet(packet, fate) => {
                 let begin = *self.begin.get_or_insert(packet.time);
                 let about = describe(self.codec, self.has_donl, packet.rtp.payload);

@@ -8,12 +8,16 @@ use crate::captures::seen::PassedOver;
 use crate::commands::arguments::Looking;
 use crate::errors::Failure;
 use crate::streams::codecs::Likeness;
+use crate::streams::guesses::Types;
 use crate::streams::guises::{Guise, Looks};
-use crate::streams::originals::Originals;
 use crate::streams::payload_types::PayloadTypes;
+use crate::streams::repairs::Repairs;
+use crate::streams::takers::Takers;
+use crate::streams::undone::Session;
 use emupedestal::Codec;
+use emupedestal::rtp::RedPayload;
 use std::cmp::Reverse;
-use std::collections::HashMap;
+use std::collections::{HashMap, HashSet};
 use std::net::IpAddr;
 use std::ops::ControlFlow;
 
@@ -92,6 +96,8 @@ pub struct Known {
     pub packets: u64,
     pub likeness: Likeness,
     looks: Looks,
+    /// Whether packets of its source look encrypted.
+    is_encrypted: bool,
     /// How many packets follow the one before them, by their numbers.
     following: u64,
     sequence: u16,
@@ -110,7 +116,10 @@ pub struct Known {
 impl Known {
     /// What it is, where its payloads aren't those of a codec as they are.
     pub fn guise(&self) -> Option<Guise> {
-        self.looks.guise(&self.likeness)
+        match self.is_encrypted {
+            true => Some(Guise::Encrypted),
+            false => self.looks.guise(&self.likeness),
+        }
     }
 
     /// What is to be said where two senders have its SSRC (RFC 3550, 8.2).
@@ -124,19 +133,16 @@ impl Known {
         })
     }
 
-    /// Whether its packets are numbered with those of another stream, and it is that one or holds
-    /// something else. Packets of the same codec under another payload type may be of its units, and
-    /// are missing there.
-    fn is_numbered_with(&self, other: &Known, types: &PayloadTypes) -> bool {
+    /// Whether its packets, of the source of another stream, aren't numbered with those of that one, or are missing there:
+    /// those of the same codec under another payload type may be of its units.
+    fn is_apart_from(&self, other: &Known, types: &PayloadTypes) -> bool {
         let holds_the_same = || {
             let codec = other.likeness.likeliest();
             codec.is_some_and(|it| self.likeness.is_likely(it))
         };
         let payload_type = self.stream.payload_type;
         let is_said = types.is_red(payload_type) || types.is_fec(payload_type);
-        self.stream == other.stream
-            || (self.stream.source() == other.stream.source()
-                && (is_said || (self.joins() && !holds_the_same())))
+        self.stream != other.stream && !is_said && (!self.joins() || holds_the_same())
     }
 
     /// Whether its numbers go on from those of other payload types of its source.
@@ -151,6 +157,12 @@ pub struct Streams {
     known: Vec<Known>,
     /// The places of those that are looked at.
     chosen: Vec<usize>,
+    types: Types,
+    /// Which of them send others again, by all that the capture has; of a pipe by its front.
+    repairs: Repairs,
+    /// What is passed over of the session description.
+    passed_over: Option<String>,
+    is_pipe: bool,
 }
 
 impl Streams {
@@ -174,32 +186,37 @@ impl Streams {
         named(self.known.iter().filter(|it| it.stream != *stream))
     }
 
-    pub fn takers(&self, types: &PayloadTypes) -> Takers {
-        let mut takers: HashMap<Stream, Vec<usize>> = HashMap::new();
-        for (at, chosen) in self.chosen().enumerate() {
-            let is_one = |it: &&Known| it.is_numbered_with(chosen, types);
-            for other in self.known.iter().filter(is_one) {
-                takers.entry(other.stream).or_default().push(at);
-            }
+    /// Which packets are of a stream.
+    pub fn session(&self, stream: &Stream) -> Session {
+        Session {
+            types: self.types.at(stream.to).of_stream(stream.payload_type),
+            ssrc: stream.ssrc,
         }
-        Takers { takers, last: None }
     }
-}
 
-/// Which streams are looked at that packets of a stream are numbered with, by their places.
-pub struct Takers {
-    takers: HashMap<Stream, Vec<usize>>,
-    /// Those of the last stream: most packets are of the same one as the packet before.
-    last: Option<(Stream, Vec<usize>)>,
-}
+    /// What is to be said of a stream's session: what is guessed of it, and passed over of its description.
+    pub fn notes(&self, stream: &Stream) -> Vec<String> {
+        let guessed = self.types.told(stream.to);
+        guessed
+            .into_iter()
+            .chain(self.passed_over.clone())
+            .collect()
+    }
 
-impl Takers {
-    pub fn of(&mut self, stream: &Stream) -> &[usize] {
-        if self.last.as_ref().is_none_or(|it| it.0 != *stream) {
-            let places = self.takers.get(stream).cloned().unwrap_or_default();
-            self.last = Some((*stream, places));
+    pub fn takers(&self) -> Takers {
+        let repairs = match self.is_pipe {
+            true => Repairs::new(&self.types),
+            false => self.repairs.clone(),
+        };
+        let mut takers = Takers::new(repairs, self.is_pipe);
+        for (at, chosen) in self.chosen().enumerate() {
+            let source = chosen.stream.source();
+            let types = self.types.at(chosen.stream.to);
+            let of_source = self.known.iter().filter(|it| it.stream.source() == source);
+            let apart = of_source.filter(|it| it.is_apart_from(chosen, types));
+            takers.add(at, source, apart.map(|it| it.stream));
         }
-        self.last.as_ref().map_or(&[], |it| &it.1)
+        takers
     }
 }
 
@@ -213,6 +230,8 @@ struct MetStreams {
     /// The payload type and the number of the last packet of each of the first `MOST` sources.
     last: Vec<(u8, u16)>,
     sources: HashMap<Source, usize>,
+    /// What redundant payloads of each source look like.
+    red: HashMap<Source, (Likeness, Looks)>,
     packets: u64,
     /// Whether no other stream is kept in mind any more.
     is_full: bool,
@@ -273,6 +292,7 @@ impl MetStreams {
             packets: 0,
             likeness: Likeness::default(),
             looks: Looks::default(),
+            is_encrypted: false,
             following: 0,
             sequence: packet.sequence.wrapping_sub(1),
             switches: (0, 0),
@@ -309,43 +329,128 @@ impl MetStreams {
         self.known.len() < MOST
     }
 
+    /// Looks at a redundant payload as it is.
+    fn add_red(&mut self, source: Source, payload: &[u8]) {
+        if self.red.len() < MOST || self.red.contains_key(&source) {
+            let (likeness, looks) = self.red.entry(source).or_default();
+            likeness.add(payload);
+            looks.add(payload);
+        }
+    }
+
     /// All of them, those first in which most packets follow one another.
     fn in_order(self) -> Vec<Known> {
         let mut known = self.known;
+        let is_encrypted = |guise: Option<Guise>| guise == Some(Guise::Encrypted);
+        let of_red = self
+            .red
+            .iter()
+            .filter(|it| is_encrypted(it.1.1.guise(&it.1.0)));
+        let of_known = known.iter().filter(|it| is_encrypted(it.guise()));
+        let sources = of_known.map(|it| it.stream.source());
+        let encrypted: HashSet<Source> = sources.chain(of_red.map(|it| *it.0)).collect();
+        for it in &mut known {
+            it.is_encrypted = encrypted.contains(&it.stream.source());
+        }
         known.sort_by_key(|it| (Reverse(it.following), it.place));
         known
     }
 }
 
-/// Reads a capture once, or the front of a pipe, and chooses the streams that are looked at; then the
-/// capture begins again.
-pub fn choose(capture: &mut Capture, looking: &Looking) -> Result<Streams, Failure> {
+/// Reads a capture, or the front of a pipe, and chooses the streams that are looked at; then the capture begins again.
+pub fn choose(capture: &mut Capture, looking: &mut Looking) -> Result<Streams, Failure> {
+    let mut types = Types::said(&looking.types);
+    let mut looked = look(capture, looking, &types)?;
+    if types.guess(&looked.known, &looking.choice) {
+        capture.rewind()?;
+        looked = look(capture, looking, &types)?;
+    }
+    let Looked {
+        known,
+        passed,
+        repairs,
+    } = looked;
+    looking.choose_described(|payload_type| {
+        let is_it = |it: &Known| it.stream.payload_type == payload_type && it.following > 1;
+        known.iter().any(is_it)
+    });
     let choice = &looking.choice;
-    let mut met = MetStreams::default();
-    let mut originals = Originals::new(&looking.types);
-    let is_soon = capture.is_pipe() && !choice.is_all;
-    let passed = each_packet(capture, Some("looking for streams"), |it| {
-        let Met::Packet(stream, from, packet) = it else {
-            return Ok(ControlFlow::Continue(()));
-        };
-        let (stream, packet) = originals.of(stream, packet);
-        if packet.is_resent {
-            return Ok(ControlFlow::Continue(()));
-        }
-        let known = met.add(&stream, from, &packet.rtp);
-        let is_clear = |it: &Known| it.following >= ENOUGH && choice.suits(it);
-        Ok(match known.is_some_and(|it| is_soon && is_clear(it)) {
-            true => ControlFlow::Break(()),
-            false => ControlFlow::Continue(()),
-        })
-    })?;
-    let known = met.in_order();
     let chosen = choice.chosen(&known);
     if chosen.is_empty() {
         return Err(none(capture, choice, &known, &passed));
     }
     capture.rewind()?;
-    Ok(Streams { known, chosen })
+    Ok(Streams {
+        known,
+        chosen,
+        types,
+        repairs,
+        passed_over: looking.passed_over.clone(),
+        is_pipe: capture.is_pipe(),
+    })
+}
+
+/// What a look at a capture told.
+struct Looked {
+    known: Vec<Known>,
+    passed: PassedOver,
+    repairs: Repairs,
+}
+
+fn look(capture: &mut Capture, looking: &Looking, types: &Types) -> Result<Looked, Failure> {
+    let others = looking.others.iter().map(|it| Choice {
+        payload_type: Some(it.payload_type),
+        ..looking.choice
+    });
+    let choices: Vec<Choice> = std::iter::once(looking.choice).chain(others).collect();
+    let mut met = MetStreams::default();
+    let mut repairs = Repairs::new(types);
+    let is_soon = capture.is_pipe() && !looking.choice.is_all;
+    let passed = each_packet(capture, Some("looking for streams"), |it| {
+        let Met::Packet(stream, from, packet) = it else {
+            return Ok(ControlFlow::Continue(()));
+        };
+        repairs.follow(stream, packet);
+        if types.at(stream.to).is_red(stream.payload_type) {
+            met.add_red(stream.source(), packet.rtp.payload);
+        }
+        let (stream, rtp) = primary(types.at(stream.to), stream, &packet.rtp);
+        let known = met.add(&stream, from, &rtp);
+        let is_clear = |it: &Known| {
+            let suits = choices.iter().any(|choice| choice.suits(it));
+            it.following >= ENOUGH && suits && !repairs.is_of_again(&it.stream)
+        };
+        Ok(match known.is_some_and(|it| is_soon && is_clear(it)) {
+            true => ControlFlow::Break(()),
+            false => ControlFlow::Continue(()),
+        })
+    })?;
+    let mut known = met.in_order();
+    known.retain(|it| repairs.repaired_by(&it.stream).is_none());
+    Ok(Looked {
+        known,
+        passed,
+        repairs,
+    })
+}
+
+/// The primary block of a packet of RED, and its stream; of any other the packet itself.
+pub fn primary<'a>(types: &PayloadTypes, stream: &Stream, rtp: &Rtp<'a>) -> (Stream, Rtp<'a>) {
+    let is_red = types.is_red(stream.payload_type);
+    let Some(red) = RedPayload::read(rtp.payload).ok().filter(|_| is_red) else {
+        return (*stream, *rtp);
+    };
+    let payload_type = red.payload_type;
+    let of_it = Stream {
+        payload_type,
+        ..*stream
+    };
+    let primary = Rtp {
+        payload_type,
+        payload: red.primary,
+        ..*rtp
+    };
+    (of_it, primary)
 }
 
 /// Says that there is no stream, and what there is.

@@ -1,7 +1,8 @@
 //! What a session gives payload types to beside a codec: retransmissions (RTX, RFC 4588), redundant payloads (RED, RFC
 //! 2198) and forward error correction (FEC, RFC 5109); by its description, or by options.
 
-use emupedestal::sdp::RtxFormat;
+use emupedestal::rtp_receiver::RtpPayloadTypes;
+use emupedestal::sdp::{RepairFormat, RepairMap, RtxFormat};
 
 const RID: &str = "urn:ietf:params:rtp-hdrext:sdes:rtp-stream-id";
 const REPAIRED_RID: &str = "urn:ietf:params:rtp-hdrext:sdes:repaired-rtp-stream-id";
@@ -27,11 +28,9 @@ impl PayloadTypes {
             let Some((name, value)) = line.split_once(':') else {
                 continue;
             };
-            let Some((first, rest)) = value.split_once(' ') else {
-                continue;
-            };
+            let (first, rest) = value.split_once(' ').unwrap_or((value, ""));
             match name {
-                "a=rtpmap" => types.read_map(first, rest),
+                "a=rtpmap" => types.read_map(value),
                 "a=fmtp" => types.read_format(first, rest),
                 "a=ssrc-group" if first == "FID" => types.read_group(rest),
                 "a=extmap" => types.read_extension(first, rest),
@@ -41,16 +40,14 @@ impl PayloadTypes {
         types
     }
 
-    fn read_map(&mut self, payload_type: &str, encoding: &str) {
-        let (Ok(payload_type), Some((name, _))) = (payload_type.parse(), encoding.split_once('/'))
-        else {
+    fn read_map(&mut self, value: &str) {
+        let Ok(map) = value.parse::<RepairMap>() else {
             return;
         };
-        let name = name.trim().to_ascii_lowercase();
-        match name.as_str() {
-            "red" => self.red.push(payload_type),
-            _ if name.contains("fec") => self.fec.push(payload_type),
-            _ => {}
+        match map.format() {
+            RepairFormat::Rtx => {}
+            RepairFormat::Red => self.red.push(map.payload_type()),
+            _ => self.fec.push(map.payload_type()),
         }
     }
 
@@ -78,20 +75,44 @@ impl PayloadTypes {
     }
 
     /// Adds one of RTX, as in `97=96`; whether it can be read.
-    pub fn add_rtx(&mut self, value: &str) -> bool {
+    pub fn read_rtx(&mut self, value: &str) -> bool {
         let pair = value.split_once('=');
         let pair = pair.map(|(rtx, original)| (rtx.parse(), original.parse()));
         match pair {
             Some((Ok(rtx @ 0..128), Ok(original @ 0..128))) if rtx != original => {
-                self.rtx.push((rtx, original));
+                self.add_rtx(rtx, original);
                 true
             }
             _ => false,
         }
     }
 
+    pub fn add_rtx(&mut self, rtx: u8, original: u8) {
+        if !self.rtx.contains(&(rtx, original)) {
+            self.rtx.push((rtx, original));
+        }
+    }
+
     pub fn add_red(&mut self, payload_type: u8) {
-        self.red.push(payload_type);
+        if !self.is_red(payload_type) {
+            self.red.push(payload_type);
+        }
+    }
+
+    /// Those of the stream of a codec's payload type.
+    pub fn of_stream(&self, media: u8) -> RtpPayloadTypes {
+        let sent_again_by = |original: u8| {
+            let of_it = |it: &&(u8, u8)| it.1 == original;
+            self.rtx.iter().find(of_it).map(|it| it.0)
+        };
+        let red = self.red.first().copied();
+        RtpPayloadTypes {
+            media,
+            rtx: sent_again_by(media),
+            red,
+            rtx_of_red: red.and_then(sent_again_by),
+            fec: self.fec.first().copied(),
+        }
     }
 
     /// Whether packets may be sent again.
@@ -110,11 +131,6 @@ impl PayloadTypes {
         self.rtx.iter().find(of_it).map(|it| it.1)
     }
 
-    /// Whether packets of this payload type may be sent again.
-    pub fn is_sent_again(&self, payload_type: u8) -> bool {
-        self.rtx.iter().any(|it| it.1 == payload_type)
-    }
-
     pub fn is_red(&self, payload_type: u8) -> bool {
         self.red.contains(&payload_type)
     }
@@ -126,6 +142,13 @@ impl PayloadTypes {
     /// The SSRC of the stream that the one of this SSRC sends again.
     pub fn original_ssrc(&self, ssrc: u32) -> Option<u32> {
         self.groups.iter().find(|it| it.1 == ssrc).map(|it| it.0)
+    }
+
+    /// Those that are undone, as options say them.
+    pub fn in_options(&self) -> String {
+        let rtx = self.rtx.iter().map(|(rtx, of)| format!("--rtx {rtx}={of}"));
+        let red = self.red.iter().map(|it| format!("--red {it}"));
+        rtx.chain(red).collect::<Vec<String>>().join(" ")
     }
 }
 
@@ -151,7 +174,9 @@ mod tests {
         let types = PayloadTypes::of_media(&lines);
         assert_eq!(types.sent_again_by(97), Some(96));
         assert_eq!(types.sent_again_by(96), None);
-        assert!(types.is_sent_again(96) && !types.is_sent_again(97));
+        let of_stream = types.of_stream(96);
+        assert_eq!((of_stream.rtx, of_stream.rtx_of_red), (Some(97), None));
+        assert_eq!((of_stream.red, of_stream.fec), (Some(98), Some(99)));
         assert!(types.is_red(98) && types.is_fec(99) && !types.is_red(99));
         assert_eq!(types.original_ssrc(22), Some(11));
         assert_eq!(types.original_ssrc(11), None);
@@ -163,9 +188,9 @@ mod tests {
     fn of_options() {
         let mut types = PayloadTypes::default();
         for value in ["97", "97=", "=96", "97=97", "128=96", "97=x"] {
-            assert!(!types.add_rtx(value), "{value}");
+            assert!(!types.read_rtx(value), "{value}");
         }
-        assert!(!types.has_rtx() && types.add_rtx("97=96") && types.has_rtx());
+        assert!(types.are_plain() && types.read_rtx("97=96") && !types.are_plain());
         assert_eq!(types.sent_again_by(97), Some(96));
     }
 }

@@ -8,6 +8,11 @@ use emupedestal::access_unit_receiver::ReceivedAccessUnit;
 pub const TICKS_A_SECOND: f64 = 90_000.0;
 const NANOS_A_SECOND: f64 = 1e9;
 
+/// A time in ticks of the timestamps' clock, which goes round at 2^32.
+pub fn ticks(nanos: u64) -> u32 {
+    (u128::from(nanos) * 90_000 / 1_000_000_000) as u32
+}
+
 #[derive(Default)]
 pub struct Rates {
     /// When the first and the last packet was captured, in nanoseconds.
@@ -70,11 +75,7 @@ pub struct Jitter {
 impl Jitter {
     /// A packet came, in the order of the capture.
     pub fn come(&mut self, packet: &Captured<'_>) {
-        self.add(packet.time, packet.rtp.timestamp);
-    }
-
-    /// A packet of this timestamp came at this time, in nanoseconds.
-    pub fn add(&mut self, now: u64, timestamp: u32) {
+        let (now, timestamp) = (packet.time, packet.rtp.timestamp);
         let Some((time, before)) = self.transit.replace((now, timestamp)) else {
             return;
         };

@@ -1,26 +1,25 @@
 //! A stream that is received, and what is counted of it.
 //!
-//! An `AccessUnitReceiver` puts packets in order and gives out access units. It counts packets that are lost
+//! An `RtpReceiver` undoes RTX and RED, puts packets in order and gives out access units. It counts packets that are lost
 //! and refused, and doesn't name them: that is done here, of each packet once the receiver has taken it.
 
-use crate::captures::ip::Part;
-use crate::captures::packets::Captured;
-use crate::commands::arguments::Looking;
+use crate::captures::packets::{Bears, Captured};
+use crate::commands::arguments::{LONGEST_WINDOW, Looking};
 use crate::errors::Failure;
 use crate::streams::numbers::Numbers;
-use crate::streams::payload::fragment;
-use crate::streams::payload_types::PayloadTypes;
+use crate::streams::rates::ticks;
 use crate::streams::refusals::{bears_no_unit, reason};
 use crate::streams::runs::{Left, Runs};
 use crate::streams::sets::are_enough;
 use crate::streams::tally::Tally;
 use crate::streams::told::{Became, Fate, Outcome, Tell, Told};
+use crate::streams::undone::{Session, ends_unit};
 use crate::streams::waiting::{Kept, Waiting};
-use emupedestal::access_unit_receiver::{
-    AccessUnitConfig, AccessUnitReceiver, Counts, Pushed, ReceivedAccessUnit,
-};
-use emupedestal::{Codec, CodecExtra, PacketError, RtpPacket, SequencedDepacketizer};
+use emupedestal::access_unit_receiver::{AccessUnitConfig, Counts, Pushed, ReceivedAccessUnit};
+use emupedestal::rtp_receiver::{NoMedia, RtpPushError, RtpPushed, RtpReceiver};
+use emupedestal::{Codec, CodecExtra, PacketError, SequencedDepacketizer};
 use std::collections::HashSet;
+use std::mem;
 
 /// A number is far where it is so much ahead of the one that is due, or so much behind (RFC 3550, A.1).
 const FAR: u16 = 3000;
@@ -28,18 +27,10 @@ const FAR: u16 = 3000;
 const MOST_LATE: u16 = 64;
 /// An access unit that is longer ends behind a unit.
 const LONGEST_UNIT: usize = 1 << 25;
-/// What no codec takes, and misses: given in the place of a packet of which the capture has only a front.
-const CUT: [u8; 1] = [28];
-
-/// What the receiver is given of a packet.
-#[derive(Clone, Copy, PartialEq, Eq)]
-enum Kind {
-    Whole,
-    Cut,
-    Padding,
-    /// It is of another payload type.
-    Other,
-}
+/// How long a packet is waited for that may be sent again: some round trips, in milliseconds.
+const RTX_WAIT: u32 = 1000;
+/// So many packets that are sent again before the first one wait for it.
+const MOST_EARLY: usize = 256;
 
 /// What the receiver has done at a time.
 struct Step {
@@ -53,10 +44,9 @@ struct Step {
 
 pub struct Reception {
     codec: Codec,
-    payload_type: u8,
+    session: Session,
     has_donl: bool,
-    window: u16,
-    receiver: AccessUnitReceiver,
+    receiver: RtpReceiver,
     /// What it had counted at the last step.
     counts: Counts,
     waiting: Waiting,
@@ -80,32 +70,42 @@ pub struct Reception {
     last_time: u64,
     runs: Runs,
     numbers: Numbers,
-    types: PayloadTypes,
+    /// Packets that were sent again before the first one came.
+    early: Vec<Kept>,
     /// Numbers of packets that RTX brought, and which may still come by themselves.
     recovered: HashSet<u16>,
     tally: Tally,
 }
 
+/// How long packets wait, and how long units may be.
+fn config(codec: Codec, session: &Session, looking: &Looking) -> AccessUnitConfig {
+    let (window, wait) = match session.types.rtx.or(session.types.rtx_of_red) {
+        Some(_) => (LONGEST_WINDOW, RTX_WAIT),
+        None => (32, u32::MAX),
+    };
+    AccessUnitConfig {
+        window: looking.window.unwrap_or(window) + 1,
+        far: 0,
+        far_behind: 0,
+        max_wait: looking.wait.unwrap_or(wait),
+        begin_wait: looking.begin_wait,
+        held_limit: usize::MAX,
+        run_limit: looking.run_limit,
+        unit_limit: usize::MAX,
+        has_sets: are_enough(codec, &looking.sets),
+    }
+}
+
 impl Reception {
-    pub fn new(codec: Codec, payload_type: u8, looking: &Looking, has_lengths: bool) -> Self {
+    pub fn new(codec: Codec, session: Session, looking: &Looking, has_lengths: bool) -> Self {
         let (has_donl, run_limit) = (looking.has_donl, looking.run_limit);
-        let config = AccessUnitConfig {
-            window: looking.window + 1,
-            far: 0,
-            far_behind: 0,
-            max_wait: looking.wait,
-            begin_wait: looking.begin_wait,
-            held_limit: usize::MAX,
-            run_limit,
-            unit_limit: usize::MAX,
-            has_sets: are_enough(codec, &looking.sets),
-        };
-        let receiver = AccessUnitReceiver::with_settings(codec, has_donl, has_lengths, config);
+        let (types, config) = (session.types, config(codec, &session, looking));
+        let mut receiver = RtpReceiver::with_settings(codec, has_donl, has_lengths, types, config);
+        receiver.follow(session.sources());
         Reception {
             codec,
-            payload_type,
+            session,
             has_donl,
-            window: looking.window,
             counts: receiver.counts(),
             receiver,
             waiting: Waiting::default(),
@@ -121,21 +121,67 @@ impl Reception {
             last_time: 0,
             runs: Runs::new(codec, has_donl, run_limit),
             numbers: Numbers::new(codec, has_donl),
-            types: looking.types.clone(),
+            early: Vec::new(),
             recovered: HashSet::new(),
             tally: Tally::new(!looking.sets.is_empty()),
         }
     }
 
-    /// Takes a packet that is numbered with those of the stream.
+    /// Takes a packet that is numbered with those of the stream, or sends one of these again.
     pub fn take(&mut self, packet: &Captured<'_>, tell: &mut Tell<'_>) -> Outcome {
+        let Some(packet) = self.session.undone(packet) else {
+            return Ok(());
+        };
         if packet.is_resent {
-            return self.take_resent(packet, tell);
+            return match self.due {
+                Some(_) => self.take_resent(&packet, tell),
+                None => self.keep_early(&packet, tell),
+            };
         }
-        if self.kind(packet) != Kind::Other && !self.is_far(packet.rtp.sequence) {
-            self.tally.rates.come(packet);
+        if packet.is_told() {
+            tell(Told::Came(&packet))?;
+            if !self.is_far(packet.rtp.sequence) {
+                self.tally.rates.come(&packet);
+            }
         }
-        self.sort_in(packet, tell)
+        if self.due.is_none() {
+            return self.begin(&packet, tell);
+        }
+        self.sort_in(&packet, tell)
+    }
+
+    /// Keeps a packet that was sent again before the first one came.
+    fn keep_early(&mut self, packet: &Captured<'_>, tell: &mut Tell<'_>) -> Outcome {
+        if self.early.len() < MOST_EARLY {
+            self.early.push(Kept::new(packet));
+            return Ok(());
+        }
+        self.tally.again += 1;
+        tell(Told::Again(packet.rtp.sequence))
+    }
+
+    /// Takes the first packet, and those that were sent again before it: of those before it the ones that it follows.
+    fn begin(&mut self, packet: &Captured<'_>, tell: &mut Tell<'_>) -> Outcome {
+        let mut early = mem::take(&mut self.early);
+        let sequence = packet.rtp.sequence;
+        let mut begin = sequence;
+        while early
+            .iter()
+            .any(|it| it.sequence() == begin.wrapping_sub(1))
+        {
+            begin = begin.wrapping_sub(1);
+        }
+        let place = |it: &Kept| it.sequence().wrapping_sub(begin);
+        early.sort_by_key(place);
+        let count = early.partition_point(|it| place(it) < sequence.wrapping_sub(begin));
+        for it in &early[..count] {
+            self.take_resent(&it.packet(), tell)?;
+        }
+        self.sort_in(packet, tell)?;
+        for it in &early[count..] {
+            self.take_resent(&it.packet(), tell)?;
+        }
+        Ok(())
     }
 
     /// Takes a packet that was sent again, which tells nothing of when the sender sends and how it numbers.
@@ -226,7 +272,7 @@ impl Reception {
 
     /// Ends an access unit that is too long, where no unit goes on. Any number is the next then.
     fn end_long(&mut self, packet: &Captured<'_>, tell: &mut Tell<'_>) -> Outcome {
-        if self.unit_len <= LONGEST_UNIT || !self.ends_unit(packet.rtp.payload) {
+        if self.unit_len <= LONGEST_UNIT || !ends_unit(self.codec, packet.rtp.payload) {
             return Ok(());
         }
         self.receiver.finish();
@@ -234,41 +280,17 @@ impl Reception {
         self.give_ahead(tell)
     }
 
-    fn kind(&self, packet: &Captured<'_>) -> Kind {
-        if packet.rtp.payload_type != self.payload_type {
-            Kind::Other
-        } else if packet.rtp.is_padding() {
-            Kind::Padding
-        } else if packet.part != Part::Whole {
-            Kind::Cut
-        } else {
-            Kind::Whole
-        }
-    }
-
-    /// Gives a packet to the receiver, at the time at which it was captured.
+    /// Gives a packet to the receiver, at the time at which it was captured. What isn't of the stream changes nothing, as
+    /// what is sent again of which nothing is missing.
     fn push(&mut self, packet: &Captured<'_>) -> Result<Pushed, Failure> {
         let now = self.tick(packet.time);
-        let rtp = &packet.rtp;
-        let payload = match self.kind(packet) {
-            Kind::Padding | Kind::Other => {
-                return self.receiver.skip(now, rtp.sequence).map_err(no_memory);
-            }
-            Kind::Cut => &CUT[..],
-            Kind::Whole => rtp.payload,
-        };
-        let packet = RtpPacket {
-            sequence: rtp.sequence,
-            timestamp: rtp.timestamp,
-            marker: rtp.marker && self.ends_unit(payload),
-            payload,
-        };
-        self.receiver.push(now, &packet).map_err(no_memory)
-    }
-
-    /// Whether no unit of a packet goes on behind it: else it ends no access unit.
-    fn ends_unit(&self, payload: &[u8]) -> bool {
-        fragment(self.codec, payload).is_none_or(|it| it.is_last)
+        let arrival = ticks(packet.time);
+        let datagram = self.session.datagram(self.codec, packet);
+        match self.receiver.push(now, arrival, &datagram) {
+            Ok(RtpPushed::Packet(taken)) => Ok(taken.pushed),
+            Err(RtpPushError::Packet(_)) => Err(Failure::memory()),
+            _ => Ok(Pushed::Twice),
+        }
     }
 
     /// The receiver's time, in milliseconds. A capture's may go back, and that one doesn't.
@@ -285,7 +307,10 @@ impl Reception {
 
     /// Takes a packet that the receiver holds.
     fn take_held(&mut self, packet: &Captured<'_>, tell: &mut Tell<'_>) -> Outcome {
-        let before_first = packet.rtp.sequence.wrapping_sub(self.window);
+        let before_first = packet
+            .rtp
+            .sequence
+            .wrapping_sub(self.receiver.config().window - 1);
         let due = *self.due.get_or_insert(before_first);
         if !self.waiting.is_empty() {
             self.waiting.put(packet, due);
@@ -339,7 +364,7 @@ impl Reception {
         let counts = self.receiver.counts();
         let refused = |it: &Counts| it.refused + it.no_unit;
         let passed = |it: &Counts| it.taken + refused(it) + it.skipped;
-        let before = std::mem::replace(&mut self.counts, counts);
+        let before = mem::replace(&mut self.counts, counts);
         Ok(Step {
             passed: passed(&counts) - passed(&before),
             has_refused: refused(&counts) > refused(&before),
@@ -363,25 +388,8 @@ impl Reception {
             self.end_unit(unit, tell)?;
         }
         self.follow(sequence);
-        let became = match self.kind(packet) {
-            Kind::Other => {
-                let is_fec = self.types.is_fec(packet.rtp.payload_type);
-                self.tally.fec += u64::from(is_fec);
-                return Ok(());
-            }
-            Kind::Padding => {
-                self.tally.padding += 1;
-                Became::Padding
-            }
-            Kind::Cut => {
-                self.tally.parts += 1;
-                self.runs.break_off();
-                Became::Cut
-            }
-            Kind::Whole => match self.refusal(packet.rtp.payload, step.has_refused) {
-                Some(error) => self.refused(packet, error),
-                None => self.taken(packet),
-            },
+        let Some(became) = self.became(packet, step.has_refused) else {
+            return Ok(());
         };
         self.last_time = self.unit_time.unwrap_or(0).max(packet.time);
         self.unit_time = Some(self.last_time);
@@ -394,7 +402,7 @@ impl Reception {
         } else if !self.recovered.is_empty() {
             self.recovered.remove(&sequence);
         }
-        let lost = std::mem::take(&mut self.lost);
+        let lost = mem::take(&mut self.lost);
         self.tally.miss(sequence, lost);
         let fate = Fate {
             became,
@@ -404,11 +412,44 @@ impl Reception {
         tell(Told::Packet(packet, fate))
     }
 
+    /// What became of a packet that was due; nothing of one that isn't told of.
+    fn became(&mut self, packet: &Captured<'_>, has_refused: bool) -> Option<Became> {
+        Some(match packet.bears {
+            Bears::Nothing(NoMedia::Padding) => {
+                self.tally.padding += 1;
+                Became::Padding
+            }
+            Bears::Nothing(NoMedia::Fec) => {
+                self.tally.fec += 1;
+                return None;
+            }
+            Bears::Nothing(NoMedia::OtherPayloadType(_)) => {
+                self.tally.other += 1;
+                return None;
+            }
+            Bears::Front => {
+                self.tally.parts += 1;
+                self.runs.break_off();
+                Became::Cut
+            }
+            Bears::Broken(error) => {
+                let reason = format!("its redundant payload is none: {error} (RFC 2198, 3)");
+                self.runs.break_off();
+                self.tally.refuse(packet.rtp.sequence, &reason, false);
+                Became::Refused(reason)
+            }
+            Bears::Media => match self.refusal(packet.rtp.payload, has_refused) {
+                Some(error) => self.refused(packet, error),
+                None => self.taken(packet),
+            },
+        })
+    }
+
     /// Follows the numbers: those between a packet and the one before it are lost.
     fn follow(&mut self, sequence: u16) {
         let due = self.due.replace(sequence.wrapping_add(1));
         let gap = sequence.wrapping_sub(due.unwrap_or(sequence));
-        if std::mem::replace(&mut self.has_passed, true) && gap > 0 {
+        if mem::replace(&mut self.has_passed, true) && gap > 0 {
             self.lost += u32::from(gap);
             self.runs.break_off();
         }
@@ -466,7 +507,7 @@ impl Reception {
             self.begin_anew(tell)?;
             return self.sort_in(packet, tell);
         }
-        if self.kind(packet) == Kind::Other {
+        if !packet.is_told() {
             return Ok(());
         }
         self.tally.packet(packet);
@@ -508,7 +549,7 @@ impl Reception {
     /// The sender begins anew: all that waits is due, and then any number is the next.
     fn begin_anew(&mut self, tell: &mut Tell<'_>) -> Outcome {
         self.end(tell)?;
-        self.receiver.restart();
+        self.receiver.follow(self.session.sources());
         self.due = None;
         self.has_passed = false;
         self.late.0 = 0;
@@ -523,7 +564,7 @@ impl Reception {
         self.drain(tell)?;
         self.give_ahead(tell)?;
         self.runs.give_up();
-        let lost = std::mem::take(&mut self.lost);
+        let lost = mem::take(&mut self.lost);
         self.tally.miss(self.due.unwrap_or_default(), lost);
         Ok(())
     }
@@ -543,6 +584,7 @@ impl Reception {
             ..
         } = self.counts;
         let mut tally = self.tally;
+        tally.again += self.early.len() as u64;
         debug_assert_eq!(refused + no_unit, tally.refused + tally.parts);
         debug_assert_eq!(no_unit, tally.no_unit);
         debug_assert_eq!(units, tally.access_units);

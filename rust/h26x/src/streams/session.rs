@@ -14,6 +14,8 @@ use std::path::Path;
 
 /// No session description is longer.
 const LONGEST: u64 = 1 << 20;
+/// So many payload types that the sender may have chosen are looked for, and so many that are passed over are named.
+const MOST: usize = 16;
 /// Ports that say that the packets go elsewhere: 0, as in RTSP, and that of discarded ones, as in an offer of WebRTC.
 const NO_PORTS: [u16; 2] = [0, 9];
 /// What protocols begin with whose packets go where ICE finds, and not to the port (RFC 8839, 4.2.1).
@@ -29,18 +31,23 @@ pub struct Described {
     pub sets: Vec<Vec<u8>>,
     /// Payload types of what is sent with it.
     pub types: PayloadTypes,
+    /// What is passed over of the description, in words.
+    pub passed_over: Option<String>,
 }
 
 /// A payload type of a description, and what it says of its format.
 struct Offered<'a> {
+    /// The line of its media.
+    media: &'a str,
     map: RtpMap,
     port: Option<u16>,
     format: &'a str,
     types: PayloadTypes,
 }
 
-/// The first stream of a description that is one of those that are asked for.
-pub fn described(path: &Path, choice: &Choice) -> Result<Described, Failure> {
+/// The first stream of a description that is one of those that are asked for, and such others of its media and codec as the
+/// sender may have chosen instead, with other payload types.
+pub fn described(path: &Path, choice: &Choice) -> Result<(Described, Vec<Described>), Failure> {
     let text = text_of(path)?;
     let offered = offered(&text);
     let suits = |it: &&Offered<'_>| {
@@ -49,19 +56,64 @@ pub fn described(path: &Path, choice: &Choice) -> Result<Described, Failure> {
                 .payload_type
                 .is_none_or(|of| of == it.map.payload_type())
     };
-    let Some(it) = offered.iter().find(suits) else {
+    let mut suiting = offered.iter().filter(suits);
+    let Some(first) = suiting.next() else {
         return Err(none(path, &offered));
     };
-    let (codec, payload_type) = (it.map.codec(), it.map.payload_type());
-    let format = Format::read(codec, it.format)
-        .map_err(|what| Failure::of(path, format!("a=fmtp:{payload_type}: {what}")))?;
-    Ok(Described {
-        codec,
-        payload_type,
-        port: it.port,
-        has_donl: format.has_donl,
-        sets: format.sets,
-        types: it.types.clone(),
+    let is_other = |it: &&Offered<'_>| {
+        std::ptr::eq(it.media, first.media) && it.map.codec() == first.map.codec()
+    };
+    let others = suiting.filter(is_other).take(MOST);
+    let others = others.filter_map(|it| it.described(&text).ok());
+    let of_first = first
+        .described(&text)
+        .map_err(|what| Failure::of(path, what))?;
+    Ok((of_first, others.collect()))
+}
+
+impl Offered<'_> {
+    /// The stream that it describes; the error says what is wrong with its format.
+    fn described(&self, text: &str) -> Result<Described, String> {
+        let (codec, payload_type) = (self.map.codec(), self.map.payload_type());
+        let format = Format::read(codec, self.format)
+            .map_err(|what| format!("a=fmtp:{payload_type}: {what}"))?;
+        Ok(Described {
+            codec,
+            payload_type,
+            port: self.port,
+            has_donl: format.has_donl,
+            sets: format.sets,
+            types: self.types.clone(),
+            passed_over: passed_over(text, self),
+        })
+    }
+}
+
+/// The payload types of a description that aren't of a stream's session, with what it calls them.
+fn passed_over(text: &str, stream: &Offered<'_>) -> Option<String> {
+    let types = stream.types.of_stream(stream.map.payload_type());
+    let others = [types.rtx, types.red, types.rtx_of_red, types.fec];
+    let lines: Vec<&str> = text.lines().map(str::trim).collect();
+    let (mut passed, mut more) = (Vec::new(), 0);
+    for media in lines.chunk_by(|_, line| !line.starts_with("m=")) {
+        let is_its = std::ptr::eq(media[0], stream.media);
+        let maps = media.iter().filter_map(|it| it.strip_prefix("a=rtpmap:"));
+        for (number, encoding) in maps.filter_map(|it| it.split_once(' ')) {
+            let payload_type = number.parse().ok();
+            let is_of_it = payload_type == Some(types.media) || others.contains(&payload_type);
+            match is_its && payload_type.is_some() && is_of_it {
+                true => {}
+                false if passed.len() < MOST => passed.push(format!("{number} ({encoding})")),
+                false => more += 1,
+            }
+        }
+    }
+    if more > 0 {
+        passed.push(format!("and {more} more"));
+    }
+    (!passed.is_empty()).then(|| {
+        let passed = passed.join(", ");
+        format!("passed over of the session description: payload types {passed}")
     })
 }
 
@@ -99,6 +151,7 @@ fn offered(text: &str) -> Vec<Offered<'_>> {
         for map in maps {
             let format = formats.get(&map.payload_type());
             offered.push(Offered {
+                media: media[0],
                 map,
                 port,
                 format: format.copied().unwrap_or_default(),

@@ -22,8 +22,9 @@ pub struct Tally {
     /// Packets that came by RTX first, and such that had come or were no longer waited for.
     pub recovered: u64,
     pub again: u64,
-    /// Packets of forward error correction among those of the stream.
+    /// Packets of forward error correction among those of the stream, and of other payload types.
     pub fec: u64,
+    pub other: u64,
     /// Packets that came behind a later one, and were put before it.
     pub moved: u64,
     pub strays: u64,
@@ -44,6 +45,8 @@ pub struct Tally {
     pub diagnoses: Diagnoses,
     /// What the stream is, where its payloads aren't those of a codec as they are.
     pub guise: Option<Guise>,
+    /// What is to be said of its session.
+    pub notes: Vec<String>,
     has_sets: bool,
     missing: u64,
     gaps: u64,
@@ -146,8 +149,9 @@ impl Tally {
         let guise = self
             .guise
             .map(|it| format!("odd: its payloads look as {it}: {}", it.advice()));
-        advice
-            .into_iter()
+        let notes = self.notes.iter().cloned();
+        notes
+            .chain(advice)
             .chain(self.losses())
             .chain(counts)
             .chain(refusals)
@@ -169,7 +173,7 @@ impl Tally {
         (self.missing > 0).then(|| format!("lost: {lost}: {}", gaps.join(", ")))
     }
 
-    fn counts(&self) -> [(u64, &'static str, &'static str); 12] {
+    fn counts(&self) -> [(u64, &'static str, &'static str); 13] {
         [
             (self.recovered, "packet", "recovered by RTX (RFC 4588)"),
             (
@@ -182,6 +186,7 @@ impl Tally {
                 "packet",
                 "passed over, of forward error correction (FEC, RFC 5109)",
             ),
+            (self.other, "packet", "passed over, of other payload types"),
             (self.given_up, "unit", "left out, for want of a packet"),
             (self.too_long, "unit", "left out, longer than --run-limit"),
             (self.parts, "packet", CUT),

@@ -10,6 +10,8 @@ pub type Tell<'a> = dyn FnMut(Told<'_>) -> Outcome + 'a;
 
 /// What is told of a stream, one after the other.
 pub enum Told<'a> {
+    /// A packet came, and not by RTX, in the order of the capture.
+    Came(&'a Captured<'a>),
     /// A packet, once it was its turn.
     Packet(&'a Captured<'a>, Fate),
     /// An access unit, behind its last packet, and when the latest of its packets was captured.

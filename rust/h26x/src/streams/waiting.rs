@@ -4,25 +4,35 @@
 use crate::captures::packets::Captured;
 use crate::captures::rtp::Rtp;
 use std::collections::VecDeque;
+use std::ops::Range;
 
 /// A packet with memory of its own.
 pub struct Kept {
     packet: Captured<'static>,
-    payload: Vec<u8>,
+    datagram: Vec<u8>,
+    /// Where in it the payload stands.
+    payload: Range<usize>,
     /// Whether it came behind a later one.
     pub is_moved: bool,
 }
 
 impl Kept {
     pub fn new(packet: &Captured<'_>) -> Self {
+        // (that of a packet that RTX or RED bears ends there too)
+        let end = packet.datagram.len() - usize::from(packet.rtp.padding);
         let rtp = Rtp {
             extension: None,
             payload: &[],
             ..packet.rtp
         };
         Kept {
-            packet: Captured { rtp, ..*packet },
-            payload: packet.rtp.payload.to_vec(),
+            packet: Captured {
+                rtp,
+                datagram: &[],
+                ..*packet
+            },
+            datagram: packet.datagram.to_vec(),
+            payload: end - packet.rtp.payload.len()..end,
             is_moved: false,
         }
     }
@@ -33,10 +43,14 @@ impl Kept {
 
     pub fn packet(&self) -> Captured<'_> {
         let rtp = Rtp {
-            payload: &self.payload,
+            payload: &self.datagram[self.payload.clone()],
             ..self.packet.rtp
         };
-        Captured { rtp, ..self.packet }
+        Captured {
+            rtp,
+            datagram: &self.datagram,
+            ..self.packet
+        }
     }
 }
 

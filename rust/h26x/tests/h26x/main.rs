@@ -27,6 +27,8 @@ mod resent;
 mod rtsp;
 mod sdp;
 mod sdp_peers;
+mod session;
+mod sessions;
 mod signals;
 mod there_and_back;
 mod tunnels;

@@ -183,7 +183,14 @@ fn odd_streams() {
 #[test]
 fn redundant_payloads() {
     let packets = pictures(|_, it| it.payload.insert(0, 108));
-    inspect(&pcap_with(&packets), &["--summary", "--codec", "h264"]).says(
+    let packets = pcap_with(&packets);
+    let guessed = [
+        "guessed, by what its packets look like: --red 96; else",
+        "payload type 108,",
+    ];
+    inspect(&packets, &["--summary"]).says(0, &guessed);
+    let as_it_is = ["--summary", "--codec", "h264", "--payload-type", "96"];
+    inspect(&packets, &as_it_is).says(
         0,
         &["odd: its payloads look as redundant payloads (RED, RFC 2198) of H.264"],
     );
@@ -206,9 +213,16 @@ fn retransmissions() {
     packets.truncate(32);
     let frames: Vec<Vec<u8>> = packets.iter().map(frame).chain(others).collect();
     let capture = pcap_of(Order::Little, 0xa1b2_c3d4, 1, &frames);
-    inspect(&capture, &["--summary"]).says(
-        0,
-        &["payload type 97, to 192.0.2.2 port 5004 (32 packets, which look as retransmissions (RTX, RFC 4588) of H.264)"],
+    let guessed = "guessed, by what its packets look like: --rtx 97=96; else";
+    let again = "32 packets: passed over, sent again by RTX";
+    inspect(&capture, &["--summary"]).says(0, &[guessed, again]);
+    let ran = inspect(
+        &capture,
+        &["--summary", "--payload-type", "97", "--codec", "h264"],
+    );
+    assert!(
+        ran.out.contains("which look as") || ran.out.contains("odd: its payloads look as"),
+        "{ran:#?}"
     );
 }
 
