@@ -49,14 +49,21 @@ static void is_answered(struct tally *t, answering *by, const h26x_sdp *offered,
     h26x_sdp_free(answer);
 }
 
+static uint32_t answer_as_webrtc(const h26x_sdp *offered, const h26x_sdp *ours, h26x_sdp *made)
+{
+    return h26x_sdp_answer_webrtc(offered, ours, false, made);
+}
+
 static void walk(struct tally *t, char *row)
 {
     const char *codec = next_column(&row), *offer = next_column(&row), *own = next_column(&row),
-               *wanted = next_column(&row), *any_order = *row != 0 ? next_column(&row) : wanted;
+               *wanted = next_column(&row), *any_order = *row != 0 ? next_column(&row) : wanted,
+               *webrtc = *row != 0 ? next_column(&row) : wanted;
     const uint32_t number = strcmp(codec, "h264") == 0 ? H26X_H264 : strcmp(codec, "h265") == 0 ? H26X_H265 : H26X_H266;
     const h26x_sdp offered = format_of(t, number, offer), ours = format_of(t, number, own);
     is_answered(t, h26x_sdp_answer, &offered, &ours, wanted);
     is_answered(t, h26x_sdp_answer_any_order, &offered, &ours, any_order);
+    is_answered(t, answer_as_webrtc, &offered, &ours, webrtc);
     h26x_sdp_free(offered);
     h26x_sdp_free(ours);
 }

@@ -145,6 +145,7 @@ static void *run(void *at)
         check_access_units(&work->tally);
         check_access_unit_rows(&work->tally);
         check_nack_rows(&work->tally);
+        check_rtp_receiver(&work->tally);
         check_showing(&work->tally);
         check_looking(&work->tally);
         check_profiles(&work->tally);
@@ -152,6 +153,7 @@ static void *run(void *at)
         check_answer_rows(&work->tally);
         check_unit_rows(&work->tally);
         check_datagrams(&work->tally);
+        check_many(&work->tally);
         check_optional(&work->tally);
     }
     work->pass(&work->tally);

@@ -25,15 +25,16 @@ bool is_same(const uint8_t *at, size_t len, const char *hex);
 const char *behind_bar(const char *hex);
 
 /* The checks of every call: of packetizers, of depacketizers and what they show, of receivers of
- * packets with their sequence numbers and of access units, of those without a handle, on packets, on
- * payloads and on profiles, on what stands round payloads, of format parameters of SDP, and what may be
- * left out of all. */
+ * packets with their sequence numbers and of access units, of packets and of datagrams, of those without a
+ * handle, on packets, on payloads and on profiles, on what stands round payloads, of format parameters of
+ * SDP, and what may be left out of all. */
 void check_sending(struct tally *t);
 void check_receiving(struct tally *t);
 void check_sequenced(struct tally *t);
 void check_access_units(struct tally *t);
 void check_access_unit_rows(struct tally *t);
 void check_nack_rows(struct tally *t);
+void check_rtp_receiver(struct tally *t);
 void check_showing(struct tally *t);
 void check_looking(struct tally *t);
 void check_cutting(struct tally *t);
@@ -42,6 +43,7 @@ void check_sdp(struct tally *t);
 void check_answer_rows(struct tally *t);
 void check_unit_rows(struct tally *t);
 void check_datagrams(struct tally *t);
+void check_many(struct tally *t);
 void check_optional(struct tally *t);
 
 /* Compares the packets that a packetizer holds, so many, which `packets` names with '|' between

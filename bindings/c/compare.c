@@ -25,8 +25,8 @@
 
 #define NAMES(X)                                                                                   \
     X(version) X(codec_name) X(strerror) X(packetizer_new) X(depacketizer_new) X(receiver_new)     \
-    X(access_units_new) X(packetizer_free) X(depacketizer_free) X(receiver_free)                   \
-    X(access_units_free) X(sdp_free) X(h265_paci_packet)                                           \
+    X(access_units_new) X(rtp_receiver_new) X(packetizer_free) X(depacketizer_free)                \
+    X(receiver_free) X(access_units_free) X(rtp_receiver_free) X(sdp_free) X(h265_paci_packet)      \
     X(sdp_read) X(sdp_of_payload) X(fits_single_units) X(rtpmap_read) X(rtpmap_write)              \
     X(is_partition_head) X(is_partition_tail) X(detect_keyframe) X(detect_h264_nalu) X(next_unit)  \
     X(set_lowest_header) X(begins_keyframe)                                                        \
@@ -47,6 +47,10 @@
     X(access_units_skip) X(access_units_next) X(access_units_deadline) X(access_units_missing)     \
     X(access_units_begin_at) X(access_units_finish) X(access_units_restart) X(access_units_count)  \
     X(access_units_set_config) X(access_units_nacks)                                               \
+    X(rtp_receiver_push) X(rtp_receiver_next) X(rtp_receiver_set_config) X(rtp_receiver_follow)    \
+    X(rtp_receiver_sources) X(rtp_receiver_deadline) X(rtp_receiver_nacks) X(rtp_receiver_finish)  \
+    X(rtp_receiver_keyframe_wanted) X(rtp_receiver_statistics) X(rtp_receiver_report)              \
+    X(rtp_receiver_count)                                                                          \
     X(sdp_answer) X(sdp_codec) X(sdp_write) X(sdp_value) X(sdp_number) X(sdp_units) X(sdp_unit) X(sdp_other)     \
     X(sdp_max_don_diff) X(sdp_constraints) X(sdp_capability_points)
 
@@ -102,7 +106,7 @@ static struct library opened(const char *path)
 
 /* ---- What a call is given ---- */
 
-enum kind { NONE, PACKETIZER, DEPACKETIZER, RECEIVER, ACCESS_UNITS, SDP };
+enum kind { NONE, PACKETIZER, DEPACKETIZER, RECEIVER, ACCESS_UNITS, RTP_RECEIVER, SDP };
 
 /* A handle of each library, of one kind. */
 struct held {
@@ -112,7 +116,7 @@ struct held {
     void *at[2];
 };
 
-enum { HELD = 8, ENDS = 512, MISSING = 64, POINTS = 3, NUMBERS = 43 };
+enum { HELD = 8, ENDS = 512, MISSING = 64, POINTS = 3, NUMBERS = 46 };
 
 static struct held held[HELD];
 
@@ -147,11 +151,14 @@ static enum call draw_call(const struct held *h)
         return CALL_sdp_answer + below(CALLS - CALL_sdp_answer);
     static const enum call often_of_units[] = {CALL_access_units_push, CALL_access_units_push,
                                                CALL_access_units_next};
+    static const enum call often_of_datagrams[] = {CALL_rtp_receiver_push, CALL_rtp_receiver_push,
+                                                   CALL_rtp_receiver_next};
     const enum call call = one_in(2) ? (enum call)below(CALLS)
         : h->kind == ACCESS_UNITS    ? often_of_units[below(3)]
+        : h->kind == RTP_RECEIVER    ? often_of_datagrams[below(3)]
                                      : often[below(11)];
     if (call >= CALL_packetizer_clone && h->kind == NONE)
-        return one_in(5) ? CALL_sdp_read : CALL_packetizer_new + below(4);
+        return one_in(5) ? CALL_sdp_read : CALL_packetizer_new + below(5);
     return call;
 }
 
@@ -306,6 +313,9 @@ struct outputs {
     h26x_rtp_packet packet;
     h26x_report report;
     uint32_t media;
+    h26x_rtp_told told;
+    h26x_rtp_sources sources;
+    h26x_rtp_statistics counted;
 };
 
 #define WANTED(bit, output) ((d->wants >> (bit) & 1) != 0 ? (output) : NULL)
@@ -334,6 +344,7 @@ static h26x_access_units_config config_of(const struct drawn *d)
 #define D &(h26x_depacketizer){d->h->at[s]}
 #define R &(h26x_receiver){{d->h->at[s]}}
 #define U &(h26x_access_units){d->h->at[s]}
+#define DATAGRAMS &(h26x_rtp_receiver){d->h->at[s]}
 #define F &(h26x_sdp){d->h->at[s]}
 
 static uint64_t sends(int s, const struct drawn *d, struct answer *a, struct outputs *o)
@@ -458,6 +469,69 @@ static uint64_t receives_units(int s, const struct drawn *d, struct answer *a, s
     }
     default:
         return l->access_units_count(U, WANTED(7, &o->counts));
+    }
+}
+
+/* A datagram of the packet that was drawn: of the codec, as a retransmission, in RED, as both, or of another type; of one of
+ * three sources. Or what was drawn itself. */
+static size_t make_datagram(const struct drawn *d, uint8_t *at)
+{
+    static const uint8_t types[] = {96, 96, 96, 97, 98, 99, 100, 101};
+    const uint8_t type = types[d->x % 8];
+    const uint16_t sequence = type == 97 || type == 99 ? (uint16_t)d->y : d->sequence;
+    const uint32_t timestamp = d->sequence / 4 * 3000u;
+    const uint8_t header[] = {0x80, (uint8_t)(d->marker << 7 | type), (uint8_t)(sequence >> 8), (uint8_t)sequence,
+                              (uint8_t)(timestamp >> 24), (uint8_t)(timestamp >> 16), (uint8_t)(timestamp >> 8),
+                              (uint8_t)timestamp, 0, 0, 0, type == 97 || type == 99 ? 2 : d->y % 30 ? 1 : 3};
+    size_t len = sizeof header;
+    if (d->z % 16 == 0 || d->bytes == NULL || d->len > MOST - 16)
+        return 0;
+    memcpy(at, header, len);
+    if (type == 97 || type == 99) {
+        at[len++] = (uint8_t)(d->sequence >> 8);
+        at[len++] = (uint8_t)d->sequence;
+    }
+    if (type == 98 || type == 99)
+        at[len++] = d->z % 3 ? 96 : (uint8_t)d->z;
+    memcpy(at + len, d->bytes, d->len);
+    return len + d->len;
+}
+
+static uint64_t receives_datagrams(int s, const struct drawn *d, struct answer *a, struct outputs *o)
+{
+    const struct library *l = &libraries[s];
+    static uint8_t datagram[MOST];
+    const size_t len = make_datagram(d, datagram);
+    const h26x_nack_times times = {d->x % 5, d->y % 50, (uint8_t)(d->x % 4)};
+    const h26x_rtp_sources sources = {1, 2, d->x % 4 != 0, d->y % 4 != 0};
+    const h26x_access_units_config config = config_of(d);
+    switch (d->call) {
+    case CALL_rtp_receiver_push:
+        return l->rtp_receiver_push(DATAGRAMS, d->tick, d->tick * 90, len > 0 ? datagram : d->bytes,
+                                    len > 0 ? len : d->len, WANTED(8, &o->told));
+    case CALL_rtp_receiver_next:
+        return l->rtp_receiver_next(DATAGRAMS, d->tick, d->has_to ? a->to : NULL, d->room, WANTED(6, &o->unit));
+    case CALL_rtp_receiver_set_config:
+        return l->rtp_receiver_set_config(DATAGRAMS, &config);
+    case CALL_rtp_receiver_follow:
+        return l->rtp_receiver_follow(DATAGRAMS, &sources);
+    case CALL_rtp_receiver_sources:
+        return l->rtp_receiver_sources(DATAGRAMS, WANTED(9, &o->sources));
+    case CALL_rtp_receiver_deadline:
+        return l->rtp_receiver_deadline(DATAGRAMS, WANTED(4, &o->number));
+    case CALL_rtp_receiver_nacks:
+        return l->rtp_receiver_nacks(DATAGRAMS, d->tick, &times, d->has_to ? a->missing : NULL,
+                                     d->x % 3 ? d->y % MISSING : 0, WANTED(0, &o->count));
+    case CALL_rtp_receiver_finish:
+        return l->rtp_receiver_finish(DATAGRAMS);
+    case CALL_rtp_receiver_keyframe_wanted:
+        return l->rtp_receiver_keyframe_wanted(DATAGRAMS, d->tick, d->y % 200);
+    case CALL_rtp_receiver_statistics:
+        return l->rtp_receiver_statistics(DATAGRAMS, WANTED(10, &o->counted));
+    case CALL_rtp_receiver_report:
+        return l->rtp_receiver_report(DATAGRAMS, d->x, d->y, WANTED(11, &o->report));
+    default:
+        return l->rtp_receiver_count(DATAGRAMS, WANTED(7, &o->counts));
     }
 }
 
@@ -660,12 +734,17 @@ static void *makes(int s, const struct drawn *d, struct answer *a, struct output
     h26x_depacketizer e = {NULL};
     h26x_receiver r = {{NULL}};
     h26x_access_units u = {NULL};
+    h26x_rtp_receiver g = {NULL};
     const h26x_access_units_config config = config_of(d);
+    const h26x_rtp_payload_types types = {96, 97, 98, 99, 100, d->x % 8 != 0, d->y % 8 != 0, d->z % 8 != 0, d->x % 5 != 0};
     h26x_sdp f = {NULL};
     switch (d->call) {
     case CALL_access_units_new:
         a->result = l->access_units_new(&config, &u);
         return u.at;
+    case CALL_rtp_receiver_new:
+        a->result = l->rtp_receiver_new(&config, &types, &g);
+        return g.at;
     case CALL_sdp_read:
         a->result = l->sdp_read(d->codec, d->bytes, d->len, &f, WANTED(3, &o->why));
         return f.at;
@@ -710,6 +789,8 @@ static enum kind kind_made(enum call call)
         return RECEIVER;
     case CALL_access_units_new:
         return ACCESS_UNITS;
+    case CALL_rtp_receiver_new:
+        return RTP_RECEIVER;
     case CALL_sdp_read:
     case CALL_sdp_of_payload:
     case CALL_sdp_answer:
@@ -763,12 +844,27 @@ static uint64_t folded_statistics(const h26x_rtp_statistics *it)
     return FOLD(parts);
 }
 
+/* And what is told of a datagram and of its sources. */
+static uint64_t folded_told(const h26x_rtp_told *it)
+{
+    const uint64_t parts[] = {it->became, it->ssrc, it->no_media, it->pushed, it->behind, it->sequence, it->payload_type,
+                              it->is_recovered};
+    return FOLD(parts);
+}
+
+static uint64_t folded_sources(const h26x_rtp_sources *it)
+{
+    const uint64_t parts[] = {it->media, it->rtx, it->has_media, it->has_rtx};
+    return FOLD(parts);
+}
+
 /* Gives one library a call; the pointer of a handle that it made. */
 static void *give(int s, const struct drawn *d)
 {
     struct answer *a = &answers[s];
     struct outputs o = {11, 12, d->wants >> 8 & 1 ? d->x % 3 : 0, 13, 14, {15, 16}, {17, 18, 19, 20}, 21, 22,
-                        {.len = 23}, {.taken = 24}, 25, {.flags = 26}, {{.max_br = 27}}, {.payload = 28}, {.ssrc = 29}, 30};
+                        {.len = 23}, {.taken = 24}, 25, {.flags = 26}, {{.max_br = 27}}, {.payload = 28}, {.ssrc = 29}, 30,
+                        {.ssrc = 31}, {.media = 32}, {.bytes = 33}};
     void *made = NULL;
     *a = (struct answer){.result = 0};
     memset(a->to, 0xee, sizeof a->to);
@@ -789,8 +885,10 @@ static void *give(int s, const struct drawn *d)
         a->result = sends(s, d, a, &o);
     else if (d->call < CALL_access_units_push)
         a->result = receives(s, d, a, &o);
-    else
+    else if (d->call < CALL_rtp_receiver_push)
         a->result = receives_units(s, d, a, &o);
+    else
+        a->result = receives_datagrams(s, d, a, &o);
     const h26x_access_unit *unit = &o.unit;
     const h26x_access_units_counts *counts = &o.counts;
     const uint64_t numbers[NUMBERS] = {
@@ -804,7 +902,7 @@ static void *give(int s, const struct drawn *d)
         o.said.flags, o.said.len,
         (uint64_t)o.said.frame_only << 2 | (uint64_t)o.said.multilayer << 1 | o.said.general, folded(&o.points[0]),
         folded(&o.points[1]), folded(&o.points[2]), folded_packet(&o.packet), folded_report(&o.report), o.media,
-        folded_statistics(&counted[s])};
+        folded_statistics(&counted[s]), folded_told(&o.told), folded_sources(&o.sources), folded_statistics(&o.counted)};
     memcpy(a->numbers, numbers, sizeof numbers);
     return made;
 }
@@ -824,6 +922,8 @@ static void put_down(struct held *h, enum kind kind)
             libraries[s].receiver_free((h26x_receiver){{at}});
         if (kind == ACCESS_UNITS)
             libraries[s].access_units_free((h26x_access_units){at});
+        if (kind == RTP_RECEIVER)
+            libraries[s].rtp_receiver_free((h26x_rtp_receiver){at});
         if (kind == SDP)
             libraries[s].sdp_free((h26x_sdp){at});
     }
@@ -908,7 +1008,8 @@ static bool same(const struct drawn *d)
     }
     add_answer(&answers[0]);
     keep_packets(d);
-    if ((d->call == CALL_receive || d->call == CALL_access_units_push) && answers[0].result == H26X_OK)
+    if ((d->call == CALL_receive || d->call == CALL_access_units_push || d->call == CALL_rtp_receiver_push)
+        && answers[0].result == H26X_OK)
         d->h->sequence = d->sequence + 1;
     if (made[0] != NULL)
         take_up(d, made);

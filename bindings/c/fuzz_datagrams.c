@@ -1,5 +1,6 @@
 /* Datagrams, any whatever: an input is one. What is read of it lies in it and is written as the same bytes, a
- * retransmission bears it, and what is counted of its bytes as numbers of packets is within bounds. */
+ * retransmission bears it, what is counted of its bytes as numbers of packets is within bounds, and a receiver tells of
+ * what it is cut into what is read of that. */
 #include "fuzz.h"
 #include <string.h>
 
@@ -173,6 +174,81 @@ static void check_counts(struct input in)
     }
 }
 
+/* A datagram to a receiver, which tells what is read of it. */
+static void push_datagram(h26x_rtp_receiver *r, uint32_t now, struct input in)
+{
+    const uint8_t *at = copied(PACKET, in);
+    h26x_rtp_told told = {.became = NOT_SAID};
+    h26x_rtp_packet packet;
+    const uint32_t code = h26x_rtp_receiver_push(r, now, now * 90, at, in.len, &told);
+    const uint32_t read = h26x_rtp_read(at, in.len, &packet);
+    saw(8, code << 8 | told.became, told.no_media << 4 | told.pushed, told.is_recovered);
+    if (h26x_is_rtcp(at, in.len)) {
+        expect(code == H26X_OK && told.became == H26X_RTP_RTCP);
+    } else if (read != H26X_OK) {
+        expect(code == read && told.became == NOT_SAID);
+    } else if (code != H26X_OK) {
+        expect(code == H26X_RED_HEADERS_PAST_THE_END || code == H26X_RED_BLOCKS_PAST_THE_END);
+        expect(told.became == NOT_SAID && packet.payload_len > 0);
+    } else if (told.became == H26X_RTP_TAKEN) {
+        expect(told.is_recovered || told.sequence == packet.header.sequence);
+        expect(told.no_media <= H26X_RTP_OTHER_TYPE && told.pushed <= H26X_JUMPED);
+    } else {
+        expect(told.became >= H26X_RTP_PROBE && told.became <= H26X_RTP_OTHER_SOURCE);
+        expect(told.ssrc == (told.became == H26X_RTP_PROBE ? 0 : packet.header.ssrc));
+    }
+}
+
+/* Takes the access units that have ended; how many they are. */
+static uint64_t take_units(h26x_rtp_receiver *r, uint32_t now)
+{
+    h26x_access_unit unit;
+    uint64_t count = 0;
+    while (h26x_rtp_receiver_next(r, now, NULL, 0, &unit) == H26X_NO_ROOM) {
+        uint8_t *to = room_for(OUTPUT, unit.len);
+        expect(h26x_rtp_receiver_next(r, now, to, unit.len, NULL) == H26X_OK && unit.len > 0);
+        count++;
+    }
+    return count;
+}
+
+/* All of an input, and then the datagrams that it is cut into, as those of one stream. */
+static void check_received(struct input in)
+{
+    const h26x_rtp_payload_types types = {96, 97, 98, 99, 100, true, true, true, true};
+    const h26x_nack_times times = {.again = 3, .most = 2};
+    h26x_rtp_receiver r;
+    h26x_access_units_counts counts;
+    h26x_rtp_statistics counted;
+    uint16_t numbers[8];
+    size_t asked;
+    uint64_t units = 0;
+    uint32_t now = 0;
+    const struct input all = in;
+    const struct settings set = take_settings(&in);
+    const h26x_access_units_config config = {.codec = set.codec,
+                                             .max_wait = 5,
+                                             .window = 16,
+                                             .far_away = 100,
+                                             .numbers = set.numbers,
+                                             .avc = set.avc,
+                                             .held_limit = LONGEST,
+                                             .run_limit = LONGEST,
+                                             .unit_limit = LONGEST};
+    expect(h26x_rtp_receiver_new(&config, &types, &r) == H26X_OK);
+    for (struct input one = all; one.len > 0; one = take_bytes(&in), now++) {
+        push_datagram(&r, now, one);
+        units += take_units(&r, now);
+        expect(h26x_rtp_receiver_nacks(&r, now, &times, numbers, 8, &asked) == H26X_OK && asked <= 8);
+        saw(9, about(asked), about((size_t)units), h26x_rtp_receiver_keyframe_wanted(&r, now, 4));
+    }
+    expect(h26x_rtp_receiver_finish(&r) == H26X_OK);
+    units += take_units(&r, now);
+    expect(h26x_rtp_receiver_count(&r, &counts) == H26X_OK && counts.units == units);
+    expect(h26x_rtp_receiver_statistics(&r, &counted) == H26X_OK && counted.received + counted.recovered <= now);
+    h26x_rtp_receiver_free(r);
+}
+
 int LLVMFuzzerTestOneInput(const uint8_t *at, size_t len)
 {
     const struct input in = {at, len < LONGEST ? len : LONGEST};
@@ -192,5 +268,6 @@ int LLVMFuzzerTestOneInput(const uint8_t *at, size_t len)
     check_red(in);
     check_rtcp(in);
     check_counts(in);
+    check_received(in);
     return 0;
 }

@@ -63,6 +63,7 @@ static h26x_packetizer packetizer;
 static h26x_depacketizer depacketizer;
 static h26x_receiver receiver;
 static h26x_access_units access_units;
+static h26x_rtp_receiver rtp_receiver;
 static const h26x_nack_times nack_times = {10, 60, 5};
 static h26x_sdp format, made_format;
 static const h26x_rtp_header header = {.sequence = 1};
@@ -85,6 +86,12 @@ static struct {
     h26x_capability_point points[ROOM];
     h26x_rtp_packet packet;
     h26x_report report;
+    h26x_rtp_told told;
+    h26x_rtp_sources sources;
+    h26x_rtp_statistics counted;
+    h26x_rtp_payload payloads[ROOM];
+    h26x_push_told pushed[ROOM];
+    h26x_receive_told received[ROOM];
 } there;
 
 /* What a call is given, and what it is to answer. */
@@ -106,6 +113,13 @@ static struct {
     size_t points_room;
     h26x_rtp_packet *packet;
     h26x_report *report;
+    h26x_rtp_told *told;
+    h26x_rtp_sources *sources;
+    h26x_rtp_statistics *counted;
+    h26x_rtp_payload *payloads;
+    h26x_push_told *pushed;
+    h26x_receive_told *received;
+    size_t payloads_len, pushed_room, received_room;
     size_t value, other_value;
     uint32_t answer;
 } given;
@@ -134,7 +148,13 @@ enum {
     REPORT = 524288,
     NUMBER_TOO = 1048576,
     PAYLOAD = 2097152,
-    PADDING = 4194304
+    PADDING = 4194304,
+    DATAGRAM = 8388608,
+    SOURCES = 16777216,
+    STATISTICS = 33554432,
+    PAYLOADS = 67108864,
+    PUSHED = 134217728,
+    RECEIVED = 268435456
 };
 
 static size_t handed_on;
@@ -171,8 +191,14 @@ static void give(unsigned which)
     given.packet = ANY(which & PACKET, &there.packet);
     given.report = ANY(which & REPORT, &there.report);
     given.number_too = ANY(which & NUMBER_TOO, &there.number_too);
+    given.told = ANY(which & DATAGRAM, &there.told);
+    given.sources = ANY(which & SOURCES, &there.sources);
+    given.counted = ANY(which & STATISTICS, &there.counted);
     given.payload.at = ANY(which & PAYLOAD, there.payload);
     given.padding.at = ANY(which & PADDING, there.padding);
+    given.payloads = ANY(which & PAYLOADS, there.payloads);
+    given.pushed = ANY(which & PUSHED, there.pushed);
+    given.received = ANY(which & RECEIVED, there.received);
     if ((which & IN) != 0)
         given.in.len = any_len(given.in.at);
     if ((which & EXTENSION) != 0)
@@ -191,6 +217,12 @@ static void give(unsigned which)
         given.numbers_room = any_len(given.numbers);
     if ((which & POINTS) != 0)
         given.points_room = any_len(given.points);
+    if ((which & PAYLOADS) != 0)
+        given.payloads_len = any_len(given.payloads);
+    if ((which & PUSHED) != 0)
+        given.pushed_room = any_len(given.pushed);
+    if ((which & RECEIVED) != 0)
+        given.received_room = any_len(given.received);
     given.value = nondet_size();
     given.other_value = given.value / 2;
     given.answer = (uint32_t)given.value;
@@ -260,6 +292,26 @@ static void writes_points(h26x_capability_point *at, size_t len)
     is_buffer(at, len, given.points, given.points_room);
     if (len != 0)
         at[0].tool = at[len - 1].tool = 1;
+}
+
+static void reads_payloads(const h26x_rtp_payload *at, size_t len)
+{
+    is_buffer(at, len, given.payloads, given.payloads_len);
+    expect(len == 0 || at[0].begin + at[len - 1].end == 0);
+}
+
+static void writes_pushed(h26x_push_told *at, size_t len)
+{
+    is_buffer(at, len, given.pushed, given.pushed_room);
+    if (len != 0)
+        at[0].behind = at[len - 1].behind = 1;
+}
+
+static void writes_received(h26x_receive_told *at, size_t len)
+{
+    is_buffer(at, len, given.received, given.received_room);
+    if (len != 0)
+        at[0].count = at[len - 1].count = 1;
 }
 
 /* An output, or a place for it. */
@@ -568,6 +620,28 @@ static void check_receive(void)
                           given.why));
 }
 
+STUB(receive_all);
+uint32_t proved_receive_all(h26x_receiver *r, const uint8_t *bytes, size_t bytes_len, const h26x_rtp_payload *payloads,
+                            size_t payloads_len, uint8_t *to, size_t room, h26x_receive_told *told, size_t told_room,
+                            size_t *taken, size_t *written)
+{
+    expect(r == &receiver);
+    reads(bytes, bytes_len, given.in);
+    reads_payloads(payloads, payloads_len);
+    writes_to(to, room);
+    writes_received(told, told_room);
+    is_output(taken, given.first);
+    is_output(written, given.second);
+    return answer();
+}
+
+static void check_receive_all(void)
+{
+    give(IN | PAYLOADS | TO | RECEIVED | FIRST | SECOND);
+    hands_on(h26x_receive_all(&receiver, given.in.at, given.in.len, given.payloads, given.payloads_len, given.to.at,
+                              given.to.len, given.received, given.received_room, given.first, given.second));
+}
+
 STUB(receiver_skip);
 uint32_t proved_receiver_skip(h26x_receiver *r, uint16_t sequence, uint32_t *received, uint16_t *count)
 {
@@ -619,6 +693,26 @@ static void check_access_units_push(void)
     hands_on(h26x_access_units_push(&access_units, (uint32_t)given.value, (uint16_t)given.other_value,
                                     (uint32_t)given.other_value, given.value != 0, given.in.at,
                                     given.in.len, given.number, given.missing));
+}
+
+STUB(access_units_push_all);
+uint32_t proved_access_units_push_all(h26x_access_units *u, uint32_t now, const uint8_t *bytes, size_t bytes_len,
+                                      const h26x_rtp_payload *payloads, size_t payloads_len, h26x_push_told *told,
+                                      size_t told_room, size_t *taken)
+{
+    expect(u == &access_units && now == (uint32_t)given.value);
+    reads(bytes, bytes_len, given.in);
+    reads_payloads(payloads, payloads_len);
+    writes_pushed(told, told_room);
+    is_output(taken, given.first);
+    return answer();
+}
+
+static void check_access_units_push_all(void)
+{
+    give(IN | PAYLOADS | PUSHED | FIRST);
+    hands_on(h26x_access_units_push_all(&access_units, (uint32_t)given.value, given.in.at, given.in.len, given.payloads,
+                                        given.payloads_len, given.pushed, given.pushed_room, given.first));
 }
 
 STUB(access_units_skip);
@@ -1166,6 +1260,146 @@ static void check_rtp_statistics_report(void)
     expect(handed_on == 1);
 }
 
+/* ---- Receiving access units, of datagrams ---- */
+
+STUB(rtp_receiver_free);
+void proved_rtp_receiver_free(h26x_rtp_receiver r)
+{
+    expect(r.at == &there);
+    handed_on++;
+}
+
+static void check_rtp_receiver_free(void)
+{
+    h26x_rtp_receiver r = {nondet_bool() ? &there : NULL};
+    handed_on = 0;
+    h26x_rtp_receiver_free(r);
+    expect(handed_on == (r.at != NULL));
+}
+
+STUB(rtp_receiver_sources);
+uint32_t proved_rtp_receiver_sources(const h26x_rtp_receiver *r, h26x_rtp_sources *sources)
+{
+    expect(r == &rtp_receiver);
+    is_output(sources, given.sources);
+    return answer();
+}
+
+static void check_rtp_receiver_sources(void)
+{
+    give(SOURCES);
+    hands_on(h26x_rtp_receiver_sources(&rtp_receiver, given.sources));
+}
+
+STUB(rtp_receiver_push);
+uint32_t proved_rtp_receiver_push(h26x_rtp_receiver *r, uint32_t now, uint32_t arrival, const uint8_t *datagram,
+                                  size_t datagram_len, h26x_rtp_told *told)
+{
+    expect(r == &rtp_receiver && now == (uint32_t)given.value && arrival == (uint32_t)given.other_value);
+    reads(datagram, datagram_len, given.in);
+    is_output(told, given.told);
+    return answer();
+}
+
+static void check_rtp_receiver_push(void)
+{
+    give(IN | DATAGRAM);
+    hands_on(h26x_rtp_receiver_push(&rtp_receiver, (uint32_t)given.value, (uint32_t)given.other_value, given.in.at,
+                                    given.in.len, given.told));
+}
+
+STUB(rtp_receiver_next);
+uint32_t proved_rtp_receiver_next(h26x_rtp_receiver *r, uint32_t now, uint8_t *to, size_t room,
+                                  h26x_access_unit *unit)
+{
+    expect(r == &rtp_receiver && now == (uint32_t)given.value);
+    writes_to(to, room);
+    is_output(unit, given.unit);
+    return answer();
+}
+
+static void check_rtp_receiver_next(void)
+{
+    give(TO | UNIT);
+    hands_on(h26x_rtp_receiver_next(&rtp_receiver, (uint32_t)given.value, given.to.at, given.to.len, given.unit));
+}
+
+STUB(rtp_receiver_deadline);
+bool proved_rtp_receiver_deadline(const h26x_rtp_receiver *r, uint32_t *at)
+{
+    expect(r == &rtp_receiver);
+    is_output(at, given.number);
+    return answer() != 0;
+}
+
+static void check_rtp_receiver_deadline(void)
+{
+    give(NUMBER);
+    hands_on_bool(h26x_rtp_receiver_deadline(&rtp_receiver, given.number));
+}
+
+STUB(rtp_receiver_nacks);
+uint32_t proved_rtp_receiver_nacks(h26x_rtp_receiver *r, uint32_t now, const h26x_nack_times *times,
+                                   uint16_t *numbers, size_t numbers_room, size_t *count)
+{
+    expect(r == &rtp_receiver && now == (uint32_t)given.value && times == &nack_times);
+    writes_numbers(numbers, numbers_room);
+    is_output(count, given.first);
+    return answer();
+}
+
+static void check_rtp_receiver_nacks(void)
+{
+    give(NUMBERS | FIRST);
+    hands_on(h26x_rtp_receiver_nacks(&rtp_receiver, (uint32_t)given.value, &nack_times, given.numbers,
+                                     given.numbers_room, given.first));
+}
+
+STUB(rtp_receiver_statistics);
+uint32_t proved_rtp_receiver_statistics(const h26x_rtp_receiver *r, h26x_rtp_statistics *counted)
+{
+    expect(r == &rtp_receiver);
+    is_output(counted, given.counted);
+    return answer();
+}
+
+static void check_rtp_receiver_statistics(void)
+{
+    give(STATISTICS);
+    hands_on(h26x_rtp_receiver_statistics(&rtp_receiver, given.counted));
+}
+
+STUB(rtp_receiver_report);
+bool proved_rtp_receiver_report(h26x_rtp_receiver *r, uint32_t last_sender_report, uint32_t delay,
+                                h26x_report *report)
+{
+    expect(r == &rtp_receiver && last_sender_report == (uint32_t)given.value);
+    expect(delay == (uint32_t)given.other_value);
+    is_output(report, given.report);
+    return answer() != 0;
+}
+
+static void check_rtp_receiver_report(void)
+{
+    give(REPORT);
+    hands_on_bool(h26x_rtp_receiver_report(&rtp_receiver, (uint32_t)given.value, (uint32_t)given.other_value,
+                                           given.report));
+}
+
+STUB(rtp_receiver_count);
+uint32_t proved_rtp_receiver_count(const h26x_rtp_receiver *r, h26x_access_units_counts *counts)
+{
+    expect(r == &rtp_receiver);
+    is_output(counts, given.counts);
+    return answer();
+}
+
+static void check_rtp_receiver_count(void)
+{
+    give(COUNTS);
+    hands_on(h26x_rtp_receiver_count(&rtp_receiver, given.counts));
+}
+
 /* ---- Format parameters of SDP ---- */
 
 STUB(sdp_free);
@@ -1428,9 +1662,11 @@ int main(void)
     in_each_case(check_written_copy);
     in_each_case(check_receiver_free);
     in_each_case(check_receive);
+    in_each_case(check_receive_all);
     in_each_case(check_receiver_skip);
     in_each_case(check_access_units_free);
     in_each_case(check_access_units_push);
+    in_each_case(check_access_units_push_all);
     in_each_case(check_access_units_skip);
     in_each_case(check_access_units_next);
     in_each_case(check_access_units_deadline);
@@ -1466,6 +1702,15 @@ int main(void)
     in_each_case(check_nack_read);
     in_each_case(check_rtcp_next);
     in_each_case(check_rtp_statistics_report);
+    in_each_case(check_rtp_receiver_free);
+    in_each_case(check_rtp_receiver_sources);
+    in_each_case(check_rtp_receiver_push);
+    in_each_case(check_rtp_receiver_next);
+    in_each_case(check_rtp_receiver_deadline);
+    in_each_case(check_rtp_receiver_nacks);
+    in_each_case(check_rtp_receiver_statistics);
+    in_each_case(check_rtp_receiver_report);
+    in_each_case(check_rtp_receiver_count);
     in_each_case(check_sdp_free);
     in_each_case(check_sdp_read);
     in_each_case(check_sdp_of_payload);

@@ -1,7 +1,8 @@
 /* How much memory a peer can make a receiver hold, by packets that no packetizer sends: aggregates in which each unit
  * is long once, of many units and of empty ones, units that never end, and whatever has no room in the caller's
- * memory; how much a packetizer takes for a long unit and for many short ones; and how much a receiver of access units
- * keeps of a long one. Says the most that was held; past the limits it ends with status 1.
+ * memory; how much a packetizer takes for a long unit and for many short ones; how much a receiver of access units
+ * keeps of a long one, and one of datagrams of what strangers and its own peer send. Says the most that was held; past
+ * the limits it ends with status 1.
  * Link with -Wl,--wrap=malloc,--wrap=realloc,--wrap=free. */
 #include "h26x.h"
 #include <malloc.h>
@@ -251,6 +252,63 @@ static void check_kept(uint32_t codec)
         exit(1);
 }
 
+/* Gives a receiver of datagrams one of a payload type, a number and an SSRC, whose payload begins with a number; and takes
+ * what has ended. */
+static void give_datagram(h26x_rtp_receiver *r, uint8_t type, uint16_t sequence, uint32_t ssrc, uint16_t number)
+{
+    static uint8_t text[PACKET];
+    const h26x_rtp_header header = {.payload_type = type, .marker = true, .sequence = sequence, .ssrc = ssrc};
+    uint8_t payload[1000] = {(uint8_t)(number >> 8), (uint8_t)number, 0x61, 1};
+    h26x_access_unit unit;
+    size_t len;
+    if (h26x_rtp_write(&header, NULL, 0, NULL, 0, payload, sizeof payload, NULL, 0, packet, PACKET, &len) != H26X_OK)
+        exit(1);
+    const uint32_t code = h26x_rtp_receiver_push(r, 0, 0, packet, len, NULL);
+    if (code == H26X_OUT_OF_MEMORY || code == H26X_WRONG_END)
+        exit(1);
+    while (h26x_rtp_receiver_next(r, 0, text, sizeof text, &unit) == H26X_OK)
+        continue;
+}
+
+/* Strangers' datagrams leave nothing; a peer that sends each number as a retransmission, what its limits say. */
+static void check_datagrams(uint32_t codec)
+{
+    enum { LIMIT = 20000, DATAGRAMS_MOST = 4 * LIMIT + SMALL };
+    const h26x_access_units_config config = {.codec = codec,
+                                             .max_wait = UINT32_MAX,
+                                             .window = 16384,
+                                             .held_limit = LIMIT,
+                                             .run_limit = LIMIT,
+                                             .unit_limit = LIMIT};
+    const h26x_rtp_payload_types types = {96, 97, 98, 99, 100, true, true, true, true};
+    const h26x_rtp_sources sources = {1, 2, true, true};
+    h26x_rtp_receiver r;
+    if (h26x_rtp_receiver_new(&config, &types, &r) != H26X_OK || h26x_rtp_receiver_follow(&r, &sources) != H26X_OK)
+        exit(1);
+    const size_t fresh = held;
+    held_most = held;
+    for (uint32_t i = 0; i < 30000; i++)
+        give_datagram(&r, (uint8_t)(95 + i % 8), (uint16_t)i, 3 + i, (uint16_t)i);
+    if (held_most != fresh) {
+        fprintf(stderr, "held.c: strangers' datagrams are held: %zu bytes\n", held_most - fresh);
+        exit(1);
+    }
+    for (uint32_t i = 0; i < 3 * 65536; i++)
+        give_datagram(&r, 97, (uint16_t)i, 2, (uint16_t)(2 * i + i / 32768));
+    const size_t most = held_most;
+    if (h26x_rtp_receiver_follow(&r, &sources) != H26X_OK)
+        exit(1);
+    printf("%s: %zu bytes at most of datagrams, %d may be; %zu once another source is followed\n",
+           h26x_codec_name(codec), most, DATAGRAMS_MOST, held);
+    if (most > DATAGRAMS_MOST || held > DATAGRAMS_MOST) {
+        fprintf(stderr, "held.c: that is too much\n");
+        exit(1);
+    }
+    h26x_rtp_receiver_free(r);
+    if (held != 0)
+        exit(1);
+}
+
 int main(void)
 {
     /* Its own memory is the system's, and none of it is counted. */
@@ -263,6 +321,7 @@ int main(void)
         check_sending(codec, PAYLOAD);
         check_sending(codec, UNIT);
         check_kept(codec);
+        check_datagrams(codec);
     }
     return 0;
 }

@@ -210,7 +210,15 @@ static void refuse_every_unit(const struct codec *c)
         refused_code = h26x_packetize_units(&p, LIMIT, (const uint8_t *)"\xff\xff", 2, &count, &why);
         expect((grant_all() > 0) == (refused_code == H26X_OUT_OF_MEMORY) && count == 1);
     } while (refused_code == H26X_OUT_OF_MEMORY);
-    expect(granted >= 3 && refused_code == H26X_UNIT_FORBIDDEN && why.first == 0 && why.second == 2);
+    expect(granted >= 2 && refused_code == H26X_UNIT_FORBIDDEN && why.first == 0 && why.second == 2);
+
+    /* Over 16 units stand in a list. */
+    static const uint8_t unit[6] = {0, 0, 1, 2, 1, 0x9a};
+    uint8_t units[17 * sizeof unit];
+    for (size_t i = 0; i < sizeof units; i++)
+        units[i] = unit[i % sizeof unit];
+    refuse_each(h26x_packetize_units(&p, LIMIT, units, sizeof units, &count, &why), count == 1 && why.first == 0);
+    expect(count == 17);
     expect(h26x_packetize_units(&p, LIMIT, sets, c->sets_len, &count, NULL) == H26X_OK && count == 2);
     h26x_packetizer_free(p);
 }
@@ -602,6 +610,63 @@ static void refuse_receiving_units(const struct codec *c)
     h26x_access_units_free(u);
 }
 
+/* Datagrams: one that is refused can be given again, and an access unit for which memory lacks is given out by a later
+ * call; one that had no room, without memory. */
+static void refuse_receiving_datagrams(const struct codec *c)
+{
+    const h26x_access_units_config config = {
+        .codec = c->number, .max_wait = 50, .window = 16, .held_limit = ROOM, .run_limit = ROOM, .unit_limit = ROOM};
+    const h26x_rtp_payload_types types = {.media = 96, .rtx = 97, .has_rtx = true};
+    const h26x_nack_times times = {0, 60, 2};
+    h26x_rtp_header header = {.payload_type = 96, .ssrc = 1, .sequence = 10};
+    h26x_rtp_receiver r = {NULL};
+    h26x_rtp_told told = {.became = 9};
+    h26x_rtp_sources sources = {.media = 9};
+    h26x_rtp_statistics counted;
+    h26x_access_unit unit_told = {.first = 9};
+    h26x_access_units_counts counts;
+    h26x_report report;
+    uint16_t numbers[8] = {9};
+    size_t len = 0, count = 9;
+    uint32_t at = 9;
+    refuse_each(h26x_rtp_receiver_new(&config, &types, &r), r.at == NULL);
+    for (header.sequence = 10; header.sequence < 14; header.sequence += 2, header.timestamp += 3000) {
+        header.marker = header.sequence == 12;
+        expect(h26x_rtp_write(&header, NULL, 0, NULL, 0, unit, 9, NULL, 0, packet, ROOM, &len) == H26X_OK);
+        told.became = 9;
+        refuse_each(h26x_rtp_receiver_push(&r, 0, 0, packet, len, &told), told.became == 9);
+        expect(told.became == H26X_RTP_TAKEN && told.sequence == header.sequence && told.pushed == H26X_HELD);
+        expect(h26x_rtp_receiver_next(&r, 0, to, ROOM, &unit_told) == H26X_NOTHING_YET);
+    }
+    without_memory(h26x_rtp_receiver_push(&r, 0, 0, packet, len, &told) == H26X_OK && told.pushed == H26X_TWICE);
+    without_memory(h26x_rtp_receiver_push(&r, 0, 0, packet, 11, &told) == H26X_RTP_TOO_SHORT);
+    refuse_each(h26x_rtp_receiver_nacks(&r, 0, &times, numbers, 8, &count), count == 0 && numbers[0] == 9);
+    expect(count == 1 && numbers[0] == 11);
+    without_memory(h26x_rtp_receiver_deadline(&r, &at) && at == 50);
+    without_memory(h26x_rtp_receiver_sources(&r, &sources) == H26X_OK && sources.media == 1 && sources.has_media);
+
+    /* A retransmission of which the SSRC doesn't tell what it is of. */
+    packet[0] = 0x80;
+    packet[1] = 97;
+    packet[11] = 2;
+    packet[12] = 0;
+    packet[13] = 11;
+    told.became = 9;
+    refuse_each(h26x_rtp_receiver_push(&r, 1, 0, packet, 14, &told), told.became == 9);
+    expect(told.is_recovered && told.sequence == 11 && told.no_media == H26X_RTP_PADDING_ALONE);
+    refuse_each(h26x_rtp_receiver_next(&r, 50, to, ROOM, &unit_told), unit_told.first == 9);
+    expect(unit_told.first == 10 && unit_told.len == 13 && unit_told.missing == 0);
+    expect(h26x_rtp_receiver_next(&r, 50, to, 12, &unit_told) == H26X_NO_ROOM && unit_told.first == 12);
+    without_memory(h26x_rtp_receiver_follow(&r, &sources) == H26X_OK);
+    without_memory(h26x_rtp_receiver_next(&r, 50, to, 13, &unit_told) == H26X_OK && unit_told.len == 13);
+    without_memory(h26x_rtp_receiver_statistics(&r, &counted) == H26X_OK && counted.received == 0);
+    without_memory(h26x_rtp_receiver_report(&r, 0, 0, &report) && report.ssrc == 1);
+    without_memory(!h26x_rtp_receiver_keyframe_wanted(&r, 0, 0) && h26x_rtp_receiver_finish(&r) == H26X_OK);
+    without_memory(h26x_rtp_receiver_set_config(&r, &config) == H26X_OK);
+    without_memory(h26x_rtp_receiver_count(&r, &counts) == H26X_OK && counts.taken == 2 && counts.units == 2);
+    h26x_rtp_receiver_free(r);
+}
+
 /* An access unit that ends behind a missing number, and the one that begins there. */
 static void refuse_ending_behind_missing(const struct codec *c)
 {
@@ -799,6 +864,67 @@ static void refuse_offers(void)
     without_memory(h26x_fits_single_units(sets, sizeof sets, 4));
 }
 
+/* The packets of the unit in one buffer, and where each is there; how many they are. */
+static size_t lay(const struct codec *c, uint8_t *bytes, size_t room, h26x_rtp_payload *payloads, size_t *len)
+{
+    h26x_packetizer p;
+    size_t ends[8], count = 0;
+    expect(h26x_packetizer_new(c->number, false, &p) == H26X_OK);
+    expect(h26x_packetize(&p, LIMIT, (const uint8_t *)c->sets, c->sets_len, NULL) == H26X_OK);
+    expect(h26x_packetize_into(&p, LIMIT, unit, c->unit_header + DATA, 0, bytes, room, ends, 8, &count, len) == H26X_OK);
+    for (size_t i = 0; i < count; i++)
+        payloads[i] = (h26x_rtp_payload){.begin = i == 0 ? 0 : ends[i - 1], .end = ends[i], .timestamp = 3000,
+                                         .sequence = (uint16_t)(10 + i), .marker = i + 1 == count};
+    h26x_packetizer_free(p);
+    return count;
+}
+
+/* Many packets in one call: where memory lacks for one, those before it were taken, and it and the others are given
+ * again. */
+static void refuse_many(const struct codec *c)
+{
+    const h26x_access_units_config config = {
+        .codec = c->number, .max_wait = 50, .window = 16, .has_sets = true, .held_limit = ROOM, .run_limit = ROOM,
+        .unit_limit = ROOM};
+    static uint8_t bytes[ROOM];
+    h26x_rtp_payload payloads[8];
+    size_t len, taken, written;
+    const size_t count = lay(c, bytes, ROOM, payloads, &len), wanted = c->sets_len + 2 + 4 + c->unit_header + DATA;
+    bool was_refused = true;
+    for (long n = 0; was_refused; n++) {
+        h26x_access_units u;
+        h26x_access_unit told = {.len = 9};
+        h26x_push_told pushed[8] = {{9, 9}, {9, 9}, {9, 9}, {9, 9}};
+        expect(h26x_access_units_new(&config, &u) == H26X_OK);
+        refuse_requests(n / 2, n % 2 == 0);
+        const uint32_t code = h26x_access_units_push_all(&u, 7, bytes, len, payloads, count, pushed, 8, &taken);
+        was_refused = grant_all() > 0;
+        expect(code == (was_refused ? H26X_OUT_OF_MEMORY : H26X_OK) && (taken < count) == was_refused);
+        expect(!was_refused || pushed[taken].pushed == 9);
+        expect(h26x_access_units_push_all(&u, 7, bytes, len, payloads + taken, count - taken, NULL, 0, &taken) == H26X_OK);
+        expect(h26x_access_units_next(&u, 57, to, ROOM, &told) == H26X_OK && told.len == wanted);
+        h26x_access_units_free(u);
+    }
+    was_refused = true;
+    for (long n = 0; was_refused; n++) {
+        h26x_receiver r;
+        h26x_receive_told received[8] = {{.code = 99}, {.code = 99}, {.code = 99}, {.code = 99}};
+        expect(h26x_receiver_new(c->number, false, false, ROOM, &r) == H26X_OK);
+        refuse_requests(n / 2, n % 2 == 0);
+        const uint32_t code = h26x_receive_all(&r, bytes, len, payloads, count, to, ROOM, received, 8, &taken, &written);
+        was_refused = grant_all() > 0;
+        expect(code == (was_refused ? H26X_OUT_OF_MEMORY : H26X_OK) && (taken < count) == was_refused);
+        expect(!was_refused || received[taken].code == 99);
+        const size_t before = written;
+        expect(h26x_receive_all(&r, bytes, len, payloads + taken, count - taken, to + before, ROOM - before, NULL, 0, &taken,
+                                &written)
+               == H26X_OK);
+        expect(before + written == wanted
+               && memcmp(to + wanted - c->unit_header - DATA, unit, c->unit_header + DATA) == 0);
+        h26x_receiver_free(r);
+    }
+}
+
 int main(void)
 {
     for (size_t i = 0; i < sizeof codecs / sizeof codecs[0]; i++) {
@@ -812,8 +938,10 @@ int main(void)
         refuse_receiving_sequenced(c);
         refuse_keeping(c);
         refuse_receiving_units(c);
+        refuse_receiving_datagrams(c);
         refuse_ending_behind_missing(c);
         refuse_giving_back(c);
+        refuse_many(c);
         look_without_memory(c);
     }
     for (size_t i = 0; i < sizeof placings / sizeof placings[0]; i++) {

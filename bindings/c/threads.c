@@ -44,6 +44,7 @@ struct shared {
     h26x_depacketizer open;
     h26x_receiver receiving;
     h26x_access_units waiting;
+    h26x_rtp_receiver datagrams;
 };
 
 static struct shared shared[3];
@@ -112,6 +113,49 @@ static void carry_reversed(h26x_packetizer *p, h26x_access_units *u, const struc
     work->units++;
 }
 
+static h26x_rtp_receiver datagrams_of(const struct codec *c)
+{
+    const h26x_access_units_config config = {.codec = c->number,
+                                             .max_wait = 100,
+                                             .begin_wait = UINT32_MAX,
+                                             .window = PACKETS,
+                                             .held_limit = SIZE_MAX,
+                                             .run_limit = UNIT,
+                                             .unit_limit = SIZE_MAX};
+    const h26x_rtp_payload_types types = {.media = 96};
+    h26x_rtp_receiver r;
+    expect(h26x_rtp_receiver_new(&config, &types, &r) == H26X_OK);
+    return r;
+}
+
+/* Gives a packet's payload as a datagram of the SSRC 9. */
+static void push_datagram(h26x_rtp_receiver *r, uint16_t sequence, bool marker, const uint8_t *payload, size_t len)
+{
+    const h26x_rtp_header header = {.payload_type = 96, .ssrc = 9, .sequence = sequence, .marker = marker};
+    uint8_t datagram[200];
+    h26x_rtp_told told;
+    size_t datagram_len;
+    expect(h26x_rtp_write(&header, NULL, 0, NULL, 0, payload, len, NULL, 0, datagram, sizeof datagram, &datagram_len)
+           == H26X_OK);
+    expect(h26x_rtp_receiver_push(r, 7, 0, datagram, datagram_len, &told) == H26X_OK);
+    expect(told.became == H26X_RTP_TAKEN && told.sequence == sequence && told.pushed == H26X_HELD);
+}
+
+/* Sends a unit in datagrams, which come in the other order. */
+static void carry_datagrams(h26x_packetizer *p, h26x_rtp_receiver *r, const struct codec *c, struct work *work)
+{
+    uint8_t unit[UNIT + 2], to[UNIT + 6], packet[100];
+    const size_t len = make_unit(c, work->byte, unit);
+    size_t count;
+    h26x_access_unit told;
+    expect(h26x_packetize(p, sizeof packet, unit, len, &count) == H26X_OK && count <= PACKETS && count > 1);
+    for (size_t i = count; i-- > 0;)
+        push_datagram(r, (uint16_t)(65500 + i), i + 1 == count, packet, h26x_packet_copy(p, i, packet, sizeof packet));
+    expect(h26x_rtp_receiver_next(r, 107, to, sizeof to, &told) == H26X_OK && told.len == len + 4);
+    expect(memcmp(to + 4, unit, len) == 0);
+    work->units++;
+}
+
 static void with_own_ends(const struct codec *c, struct work *work)
 {
     h26x_packetizer p;
@@ -123,9 +167,12 @@ static void with_own_ends(const struct codec *c, struct work *work)
         carry(&p, &r, &sequence, c, work);
     h26x_access_units u = units_of(c);
     carry_reversed(&p, &u, c, work);
+    h26x_rtp_receiver d = datagrams_of(c);
+    carry_datagrams(&p, &d, c, work);
     h26x_packetizer_free(p);
     h26x_receiver_free(r);
     h26x_access_units_free(u);
+    h26x_rtp_receiver_free(d);
 }
 
 /* The ends that all have, with the lock; copies of them without. */
@@ -156,12 +203,18 @@ static void ask_shared_ends(const struct shared *s, const struct codec *c)
     h26x_receiver r;
     h26x_h265_packet shown;
     h26x_access_units_counts counts;
+    h26x_rtp_sources sources;
+    h26x_rtp_statistics counted;
     uint16_t numbers[2];
     uint32_t at;
     expect(h26x_access_units_deadline(&s->waiting, &at) && at == 107);
     expect(h26x_access_units_missing(&s->waiting, numbers, 2, &count) == H26X_OK && count == 1);
     expect(numbers[0] == 8);
     expect(h26x_access_units_count(&s->waiting, &counts) == H26X_OK && counts.taken == 0);
+    expect(h26x_rtp_receiver_deadline(&s->datagrams, &at) && at == 107);
+    expect(h26x_rtp_receiver_sources(&s->datagrams, &sources) == H26X_OK && sources.media == 9);
+    expect(h26x_rtp_receiver_statistics(&s->datagrams, &counted) == H26X_OK && counted.received == 2);
+    expect(h26x_rtp_receiver_count(&s->datagrams, &counts) == H26X_OK && counts.taken == 0);
     expect(h26x_packet_count(&s->packets) > 2 && h26x_packets_len(&s->packets) > UNIT);
     expect(h26x_packet_len(&s->packets, 1) == sizeof packet);
     expect(h26x_packet_copy(&s->packets, 1, packet, sizeof packet) == sizeof packet);
@@ -238,6 +291,9 @@ static void begin(struct shared *s, const struct codec *c)
     s->waiting = units_of(c);
     expect(h26x_access_units_push(&s->waiting, 7, 7, 0, true, packet, sizeof packet, NULL, NULL) == H26X_OK);
     expect(h26x_access_units_push(&s->waiting, 7, 9, 0, true, packet, sizeof packet, NULL, NULL) == H26X_OK);
+    s->datagrams = datagrams_of(c);
+    push_datagram(&s->datagrams, 7, true, packet, sizeof packet);
+    push_datagram(&s->datagrams, 9, true, packet, sizeof packet);
     expect(h26x_receive(&s->receiving, 7, packet, sizeof packet, NULL, 0, NULL, &told, NULL, NULL, NULL) == H26X_OK);
 }
 
@@ -249,6 +305,7 @@ static void end(struct shared *s)
     h26x_receiver_free(s->receiver);
     h26x_receiver_free(s->receiving);
     h26x_access_units_free(s->waiting);
+    h26x_rtp_receiver_free(s->datagrams);
     expect(pthread_mutex_destroy(&s->lock) == 0);
 }
 
@@ -269,7 +326,7 @@ int main(void)
     }
     for (size_t i = 0; i < 3; i++)
         end(&shared[i]);
-    expect(units == THREADS * ROUNDS * 3 * 6);
+    expect(units == THREADS * ROUNDS * 3 * 7);
     printf("%zu units came through, in %d threads\n", units, (int)THREADS);
     return 0;
 }

@@ -4,18 +4,18 @@
  *     recorder OUT h264|h265|h266 IN [LIMIT]
  *
  * A process of its own sends the Annex B stream IN as RTP, in payloads of LIMIT bytes at most, 1200
- * unless said. It loses one packet of ten, sends another one behind the next, and sends packets of
- * padding alone. It sends again what it is asked for (NACK; RFC 4585, 6.2.1), and loses that too.
+ * unless said, and again what it is asked for (resender.h).
  *
- * The recorder waits for packets that are missing, and asks for them until they come. It writes an
- * access unit to OUT where a decoder can show it, from the first keyframe on; else it asks for a
- * keyframe (PLI; RFC 4585, 6.3.1), which this sender, who has no encoder, only counts. The recording
- * is compared with the stream, whose parameter sets must stand as udp.c has it. Ends with status 1
- * where anything differs. */
+ * The recorder gives each datagram to a receiver, which undoes retransmissions, and tells what to
+ * ask for: packets until they come, and a keyframe (PLI; RFC 4585, 6.3.1), which this sender, who
+ * has no encoder, only counts. It writes an access unit to OUT where a decoder can show it, from the
+ * first keyframe on. The recording is compared with the stream, whose parameter sets must stand as
+ * udp.c has it. Ends with status 1 where anything differs. */
 #define _GNU_SOURCE
 #include "access_units.h"
-#include "ends.h"
-#include "losses.h"
+#include "datagrams.h"
+#include "h26x.h"
+#include "resender.h"
 #include "rtcp.h"
 #include "stream.h"
 #include <inttypes.h>
@@ -29,185 +29,28 @@
 #include <unistd.h>
 
 /* In milliseconds: for how long a packet that is missing is waited for, and at the beginning one
- * before the first that came; how often it is asked for, and for how long nothing comes where a
- * stream is over; for how long the sender is patient. */
-enum { MAX_WAIT = 2000, BEGIN_WAIT = 20, ASK_EACH = 20, SILENCE = 500, PATIENCE = 10000 };
-
-/* Of how many packets one is lost, or comes behind the next one; packets of padding at a time. */
-enum { OF = 10, PADDINGS = 3 };
+ * before the first that came; how often it is asked for, and a keyframe; and for how long nothing
+ * comes where a stream is over, or none begins. */
+enum {
+    MAX_WAIT = 2000,
+    BEGIN_WAIT = 20,
+    ASK_EACH = 20,
+    KEY_EACH = 500,
+    SILENCE = 500,
+    PATIENCE = 10000
+};
 
 /* Numbers that are asked for at once. */
 enum { ASKED = 512 };
 
-/* Padding of so many bytes, the last of which says how many (RFC 3550, 5.1). */
-enum { PADDING = 16 };
-
-/* ---- The sender ---- */
-
-/* All packets of a stream, one behind the other, for the case that they are asked for again. */
-struct history {
-    uint8_t *at;
-    size_t *ends;
-    size_t count, size;
-    uint16_t first;
-};
-
-static void append_packet(struct history *h, const uint8_t *packet, size_t len)
-{
-    h->at = grown(h->at, h->size + len);
-    h->ends = grown(h->ends, (h->count + 1) * sizeof *h->ends);
-    memcpy(h->at + h->size, packet, len);
-    h->size += len;
-    h->ends[h->count++] = h->size;
-}
-
-/* Padding alone, as congestion control sends it: a number, and nothing of the stream. */
-static bool append_padding(struct history *h, struct server *s)
-{
-    static const uint8_t padding[PADDING] = {[PADDING - 1] = PADDING};
-    uint8_t packet[RTP_HEADER + PADDING];
-    size_t len;
-    s->header.marker = false;
-    for (int i = 0; i < PADDINGS; i++) {
-        if (h26x_rtp_write(&s->header, NULL, 0, NULL, 0, NULL, 0, padding, PADDING, packet,
-                           sizeof packet, &len)
-            != H26X_OK)
-            return fail("padding isn't written");
-        append_packet(h, packet, len);
-        s->header.sequence++;
-    }
-    return true;
-}
-
-/* Makes the packets of a stream, with padding behind each tenth frame, and at the end, where a
- * receiver sees by it whether the last packets are missing. */
-static bool make_history(const struct stream *s, struct server *server, struct history *h)
-{
-    size_t begin, end = 0, frames = 0;
-    h->first = server->header.sequence;
-    while (next_access_unit(s->codec, s->at, s->len, end, &begin, &end)) {
-        struct packets made;
-        if (!make_packets(server, s->limit, s->at + begin, end - begin, &made))
-            return false;
-        for (size_t n = 0; n < made.count; n++)
-            append_packet(h, made.at + packet_begin(&made, n),
-                          made.ends[n] - packet_begin(&made, n));
-        if (++frames % 10 == 0 && !append_padding(h, server))
-            return false;
-    }
-    return append_padding(h, server);
-}
-
-/* What sends the packets, and what became of them; and the one that goes behind the next, if one
- * does. */
-struct lossy {
-    const struct history *history;
-    int socket;
-    uint64_t state;
-    size_t lost, again, keyframes_asked, behind;
-    bool has_behind, is_over;
-};
-
-static bool send_one(struct lossy *l, size_t n)
-{
-    const struct packets p = {l->history->at, l->history->ends, l->history->count};
-    const size_t begin = packet_begin(&p, n);
-    return send(l->socket, p.at + begin, p.ends[n] - begin, 0) >= 0
-        || fail_by_errno("a packet can't be sent");
-}
-
-/* Sends a packet, or loses it, or lets the next one go before it. The last ones go in any case. */
-static bool send_lossy(struct lossy *l, size_t n)
-{
-    const bool is_last = n + PADDINGS >= l->history->count;
-    if (!is_last && draw_below(&l->state, OF) == 0) {
-        l->lost++;
-        return true;
-    }
-    if (!is_last && !l->has_behind && draw_below(&l->state, OF) == 0) {
-        l->behind = n;
-        l->has_behind = true;
-        return true;
-    }
-    const bool has_behind = l->has_behind;
-    l->has_behind = false;
-    return send_one(l, n) && (!has_behind || send_one(l, l->behind));
-}
-
-/* Does what a packet of RTCP asks for. */
-static bool answer_packet(struct lossy *l, const uint8_t *packet, size_t len)
-{
-    uint16_t numbers[ASKED];
-    if (h26x_pli_read(packet, len, NULL, NULL)) {
-        l->keyframes_asked++;
-        return true;
-    }
-    if (rtcp_is_bye(packet, len)) {
-        l->is_over = true;
-        return true;
-    }
-    size_t count;
-    if (!h26x_nack_read(packet, len, NULL, NULL, numbers, ASKED, &count))
-        return true;
-    for (size_t i = 0; i < count && i < ASKED; i++) {
-        const size_t n = (uint16_t)(numbers[i] - l->history->first);
-        if (n >= l->history->count)
-            continue;
-        l->again++;
-        if (!send_lossy(l, n))
-            return false;
-    }
-    return true;
-}
-
-/* Does what the packets of a datagram of RTCP ask for. */
-static bool answer_datagram(struct lossy *l, const uint8_t *at, size_t len)
-{
-    size_t end;
-    for (size_t from = 0; h26x_rtcp_next(at, len, from, &end); from = end)
-        if (!answer_packet(l, at + from, end - from))
-            return false;
-    return true;
-}
-
-/* Does what comes within so many milliseconds asks for. */
-static bool answer_for(struct lossy *l, int milliseconds)
-{
-    uint8_t packet[RTCP_ROOM];
-    struct pollfd waits = {.fd = l->socket, .events = POLLIN};
-    while (poll(&waits, 1, milliseconds) > 0) {
-        const ssize_t len = recv(l->socket, packet, sizeof packet, MSG_DONTWAIT);
-        if (len > 0 && !answer_datagram(l, packet, (size_t)len))
-            return false;
-        milliseconds = 0;
-    }
-    return true;
-}
-
-/* Sends all, a packet a millisecond, and then what it is asked for until the recorder goes. */
-static bool send_all(const struct history *h, int socket)
-{
-    struct lossy l = {.history = h, .socket = socket, .state = 1};
-    for (size_t n = 0; n < h->count; n++)
-        if (!send_lossy(&l, n) || !answer_for(&l, 1))
-            return false;
-    for (int waited = 0; !l.is_over && waited < PATIENCE; waited += ASK_EACH)
-        if (!answer_for(&l, ASK_EACH))
-            return false;
-    printf("%zu packets sent, %zu losses, %zu sent again; a keyframe was asked for %zu times\n",
-           h->count, l.lost, l.again, l.keyframes_asked);
-    return l.is_over || fail("the recorder doesn't go");
-}
-
 /* ---- The recorder ---- */
 
 struct recorder {
-    h26x_access_units units;
+    h26x_rtp_receiver receiver;
     int socket;
     struct sockaddr_storage sender;
     socklen_t sender_len;
-    uint32_t source;
-    bool has_come, asks;  /* whether one came, and whether a keyframe was asked for */
+    bool has_come;
     uint8_t *unit, *text; /* room for an access unit, and all that is recorded */
     size_t room, len, recorded;
 };
@@ -226,91 +69,67 @@ static bool say(struct recorder *r, const uint8_t *packet, size_t len)
         || fail_by_errno("RTCP can't be sent");
 }
 
-/* Gives a datagram to the receiver. Padding is no payload; what is none of RTP is passed over. */
-static bool take_datagram(struct recorder *r, uint32_t now, const uint8_t *at, size_t len)
-{
-    h26x_rtp_packet packet;
-    if (h26x_is_rtcp(at, len) || h26x_rtp_read(at, len, &packet) != H26X_OK)
-        return true;
-    const h26x_rtp_header *header = &packet.header;
-    r->has_come = true;
-    r->source = header->ssrc;
-    const uint32_t code =
-        h26x_access_units_push(&r->units, now, header->sequence, header->timestamp, header->marker,
-                               at + packet.payload, packet.payload_len, NULL, NULL);
-    return code == H26X_OK || fail(h26x_strerror(code));
-}
-
-/* Takes all datagrams that are there. */
+/* Takes all datagrams that are there. What is none of RTP is passed over. */
 static bool take_datagrams(struct recorder *r, uint32_t now)
 {
     static uint8_t packet[LONGEST_DATAGRAM];
     for (;;) {
+        h26x_rtp_told told;
         r->sender_len = sizeof r->sender;
         const ssize_t len = recvfrom(r->socket, packet, sizeof packet, MSG_DONTWAIT,
                                      (struct sockaddr *)&r->sender, &r->sender_len);
         if (len < 0)
             return true;
-        if (!take_datagram(r, now, packet, (size_t)len))
-            return false;
+        const uint32_t code =
+            h26x_rtp_receiver_push(&r->receiver, now, now * 90, packet, (size_t)len, &told);
+        if (code == H26X_OUT_OF_MEMORY)
+            return fail(h26x_strerror(code));
+        r->has_come = r->has_come || (code == H26X_OK && told.became == H26X_RTP_TAKEN);
     }
 }
 
-/* Records an access unit that a decoder can take. For the first that is another one a keyframe is
- * asked for. */
-static bool record(struct recorder *r, const h26x_access_unit *unit)
-{
-    uint8_t packet[RTCP_ROOM];
-    size_t len;
-    const bool asks = !unit->is_clean && !r->asks;
-    r->asks = !unit->is_clean;
-    if (unit->is_clean) {
-        r->text = grown(r->text, r->len + unit->len);
-        memcpy(r->text + r->len, r->unit, unit->len);
-        r->len += unit->len;
-        r->recorded++;
-    }
-    if (!asks)
-        return true;
-    return h26x_pli_write(RTCP_SENDER, r->source, packet, sizeof packet, &len) == H26X_OK
-        && say(r, packet, len);
-}
-
-/* Takes the access units that have ended. */
+/* Records the access units that have ended and that a decoder can take. */
 static bool take_units(struct recorder *r, uint32_t now)
 {
     h26x_access_unit unit;
     uint32_t code;
-    while ((code = h26x_access_units_next(&r->units, now, r->unit, r->room, &unit))
+    while ((code = h26x_rtp_receiver_next(&r->receiver, now, r->unit, r->room, &unit))
            != H26X_NOTHING_YET) {
         if (code == H26X_NO_ROOM) {
             r->unit = grown(r->unit, unit.len);
             r->room = unit.len;
         } else if (code != H26X_OK) {
             return fail(h26x_strerror(code));
-        } else if (!record(r, &unit)) {
-            return false;
+        } else if (unit.is_clean) {
+            r->text = grown(r->text, r->len + unit.len);
+            memcpy(r->text + r->len, r->unit, unit.len);
+            r->len += unit.len;
+            r->recorded++;
         }
     }
     return true;
 }
 
-/* Asks for packets that are missing, each at once, and again. */
-static bool ask_again(struct recorder *r, uint32_t now)
+/* Asks for what the receiver wants: packets that are missing, and a keyframe. */
+static bool ask(struct recorder *r, uint32_t now)
 {
     const h26x_nack_times times = {.first = 0, .again = ASK_EACH, .most = MAX_WAIT / ASK_EACH};
+    h26x_rtp_sources sources;
     uint16_t numbers[ASKED];
     uint8_t packet[RTCP_ROOM];
     size_t count = 0, asked, len;
-    if (h26x_access_units_nacks(&r->units, now, &times, numbers, ASKED, &count) != H26X_OK)
+    if (h26x_rtp_receiver_nacks(&r->receiver, now, &times, numbers, ASKED, &count) != H26X_OK
+        || h26x_rtp_receiver_sources(&r->receiver, &sources) != H26X_OK)
         return fail("no memory");
-    for (size_t from = 0; from < count; from += asked) {
-        const uint32_t code = h26x_nack_write(RTCP_SENDER, r->source, numbers + from, count - from,
-                                              packet, sizeof packet, &len, &asked);
-        if (code != H26X_OK || !say(r, packet, len))
+    for (size_t from = 0; from < count; from += asked)
+        if (h26x_nack_write(RTCP_SENDER, sources.media, numbers + from, count - from, packet,
+                            sizeof packet, &len, &asked)
+                != H26X_OK
+            || !say(r, packet, len))
             return false;
-    }
-    return true;
+    return !h26x_rtp_receiver_keyframe_wanted(&r->receiver, now, KEY_EACH)
+        || (h26x_pli_write(RTCP_SENDER, sources.media, packet, sizeof packet, &len) == H26X_OK
+            && say(r, packet, len));
 }
 
 /* Waits for packets; where some wait, until those that are missing are asked for again, or are not
@@ -319,7 +138,7 @@ static bool wait_for_packets(struct recorder *r)
 {
     struct pollfd come = {.fd = r->socket, .events = POLLIN};
     uint32_t tick;
-    const bool some_wait = h26x_access_units_deadline(&r->units, &tick);
+    const bool some_wait = h26x_rtp_receiver_deadline(&r->receiver, &tick);
     int patience = r->has_come ? SILENCE : PATIENCE;
     if (some_wait) {
         const int32_t left = (int32_t)(tick - milliseconds());
@@ -334,10 +153,10 @@ static bool record_all(struct recorder *r)
     uint8_t packet[RTCP_ROOM];
     while (wait_for_packets(r)) {
         const uint32_t now = milliseconds();
-        if (!take_datagrams(r, now) || !take_units(r, now) || !ask_again(r, now))
+        if (!take_datagrams(r, now) || !take_units(r, now) || !ask(r, now))
             return false;
     }
-    return h26x_access_units_finish(&r->units) == H26X_OK && take_units(r, milliseconds())
+    return h26x_rtp_receiver_finish(&r->receiver) == H26X_OK && take_units(r, milliseconds())
         && r->has_come && say(r, packet, rtcp_write_bye(packet));
 }
 
@@ -387,20 +206,23 @@ static bool write_file(const char *name, const uint8_t *text, size_t len)
 }
 
 /* Says what was counted. With each packet asked for until it came, none is lost. */
-static bool tell(const struct recorder *r)
+static bool tell(struct recorder *r)
 {
     h26x_access_units_counts c;
-    if (h26x_access_units_count(&r->units, &c) != H26X_OK)
+    h26x_rtp_statistics s;
+    if (h26x_rtp_receiver_count(&r->receiver, &c) != H26X_OK
+        || h26x_rtp_receiver_statistics(&r->receiver, &s) != H26X_OK)
         return fail("no counts");
-    printf("%" PRIu64 " packets taken, %" PRIu64 " skipped, %" PRIu64 " missing; %" PRIu64
-           " access units, %" PRIu64 " whole, %zu recorded\n",
-           c.taken, c.skipped, c.lost, c.units, c.whole, r->recorded);
+    printf("%" PRIu64 " packets came, %" PRIu64 " recovered, %" PRIu64 " skipped, %" PRIu64
+           " missing; %" PRIu64 " access units, %" PRIu64 " whole, %zu recorded\n",
+           s.received, s.recovered, c.skipped, c.lost, c.units, c.whole, r->recorded);
     return c.lost == 0 || fail("packets are lost");
 }
 
 /* Makes a recorder, and the socket that sends to its own. */
 static bool make_recorder(uint32_t codec, int *sends, struct recorder *r)
 {
+    const h26x_rtp_payload_types types = {.media = MEDIA_TYPE, .rtx = RTX_TYPE, .has_rtx = true};
     const h26x_access_units_config config = {.codec = codec,
                                              .max_wait = MAX_WAIT,
                                              .begin_wait = BEGIN_WAIT,
@@ -410,7 +232,7 @@ static bool make_recorder(uint32_t codec, int *sends, struct recorder *r)
                                              .held_limit = 8000000,
                                              .run_limit = 4000000,
                                              .unit_limit = 8000000};
-    if (h26x_access_units_new(&config, &r->units) != H26X_OK)
+    if (h26x_rtp_receiver_new(&config, &types, &r->receiver) != H26X_OK)
         return fail("no memory");
     return open_sockets(sends, &r->socket) || fail_by_errno("no sockets on 127.0.0.1");
 }
@@ -418,18 +240,12 @@ static bool make_recorder(uint32_t codec, int *sends, struct recorder *r)
 /* Has a process of its own send the stream. */
 static bool start_sender(const struct stream *s, int sends, int receives, pid_t *sender)
 {
-    struct server server;
-    struct client unused;
-    struct history history = {0};
     fflush(stdout);
     *sender = fork();
     if (*sender != 0)
         return *sender > 0 || fail_by_errno("no process");
     close(receives);
-    exit(make_ends(s->codec, &server, &unused) && make_history(s, &server, &history)
-                 && send_all(&history, sends)
-             ? 0
-             : 1);
+    exit(send_stream(s, sends) ? 0 : 1);
 }
 
 int main(int argc, char **argv)
@@ -445,7 +261,7 @@ int main(int argc, char **argv)
     const bool is_right = record_all(&r) && tell(&r) && is_recorded(&s, r.text, r.len)
         && write_file(argv[1], r.text, r.len);
     waitpid(sender, &status, 0);
-    h26x_access_units_free(r.units);
+    h26x_rtp_receiver_free(r.receiver);
     close(r.socket);
     free(r.unit);
     free(r.text);

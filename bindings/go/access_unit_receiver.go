@@ -169,6 +169,9 @@ type AccessUnitReceiver struct {
 	mu    sync.RWMutex
 	codec Codec
 	call  *receivingUnits
+	// Memory for calls of many packets, which is kept.
+	payloads []C.h26x_rtp_payload
+	told     []C.h26x_push_told
 }
 
 // receivingUnits is what C is given: it has no pointer of Go's. It is nil where the AccessUnitReceiver is closed.
@@ -176,6 +179,7 @@ type receivingUnits struct {
 	handle C.h26x_access_units
 	pushed C.uint32_t
 	behind C.uint16_t
+	taken  C.size_t
 	unit   C.h26x_access_unit
 }
 
@@ -311,19 +315,26 @@ func (r *AccessUnitReceiver) NextInto(now uint32, unit *AccessUnit) (bool, error
 	if call == nil {
 		return false, ErrClosed
 	}
+	return nextUnit(unit, &call.unit, func(room []byte) C.uint32_t {
+		return C.h26x_access_units_next(&call.handle, C.uint32_t(now), at(room), C.size_t(len(room)), &call.unit)
+	})
+}
+
+// nextUnit writes the next access unit to unit, by a call that writes its bytes and tells the rest.
+func nextUnit(unit *AccessUnit, told *C.h26x_access_unit, next func(room []byte) C.uint32_t) (bool, error) {
 	room := unit.Bytes[:cap(unit.Bytes)]
-	code := call.next(now, room)
+	code := next(room)
 	if code == C.H26X_NO_ROOM {
-		size, err := length(call.unit.len)
+		size, err := length(told.len)
 		if err != nil {
 			return false, err
 		}
 		room = make([]byte, larger(size, 2*len(room)))
-		code = call.next(now, room)
+		code = next(room)
 	}
 	switch code {
 	case C.H26X_OK:
-		*unit = call.told(room[:call.unit.len])
+		*unit = unitOf(told, room[:told.len])
 		return true, nil
 	case C.H26X_NOTHING_YET:
 		return false, nil
@@ -332,23 +343,19 @@ func (r *AccessUnitReceiver) NextInto(now uint32, unit *AccessUnit) (bool, error
 	}
 }
 
-func (call *receivingUnits) next(now uint32, room []byte) C.uint32_t {
-	return C.h26x_access_units_next(&call.handle, C.uint32_t(now), at(room), C.size_t(len(room)), &call.unit)
-}
-
-// told is what the last call told of an access unit, with its bytes.
-func (call *receivingUnits) told(bytes []byte) AccessUnit {
+// unitOf is an access unit of what a call told, with its bytes.
+func unitOf(told *C.h26x_access_unit, bytes []byte) AccessUnit {
 	return AccessUnit{
-		Timestamp:    uint32(call.unit.timestamp),
+		Timestamp:    uint32(told.timestamp),
 		Bytes:        bytes,
-		Extra:        CodecExtra(call.unit.extra),
-		IsWhole:      bool(call.unit.is_whole),
-		IsClean:      bool(call.unit.is_clean),
-		IsDisposable: bool(call.unit.is_disposable),
-		Continues:    bool(call.unit.continues),
-		First:        uint16(call.unit.first),
-		Last:         uint16(call.unit.last),
-		Missing:      uint32(call.unit.missing),
+		Extra:        CodecExtra(told.extra),
+		IsWhole:      bool(told.is_whole),
+		IsClean:      bool(told.is_clean),
+		IsDisposable: bool(told.is_disposable),
+		Continues:    bool(told.continues),
+		First:        uint16(told.first),
+		Last:         uint16(told.last),
+		Missing:      uint32(told.missing),
 	}
 }
 
@@ -396,6 +403,10 @@ type NackTimes struct {
 	Most uint8
 }
 
+func (t NackTimes) given() *C.h26x_nack_times {
+	return &C.h26x_nack_times{first: C.uint32_t(t.First), again: C.uint32_t(t.Again), most: C.uint8_t(t.Most)}
+}
+
 // Nacks is the numbers of Missing that are to be asked for at this tick, in order, up to room of them: each is asked for as
 // times says, and counts as asked for. Others are due at the next call. A number counts as missing since the first of the
 // calls in a row that found it so: call it as often as First and Again ask for. Its errors are ErrOutOfMemory and ErrClosed,
@@ -419,8 +430,7 @@ func (r *AccessUnitReceiver) Nacks(now uint32, times NackTimes, room int) ([]uin
 		numbers = make([]uint16, room)
 		first = (*C.uint16_t)(unsafe.Pointer(&numbers[0]))
 	}
-	when := &C.h26x_nack_times{first: C.uint32_t(times.First), again: C.uint32_t(times.Again), most: C.uint8_t(times.Most)}
-	code := C.h26x_access_units_nacks(&r.call.handle, C.uint32_t(now), when, first, C.size_t(len(numbers)), count)
+	code := C.h26x_access_units_nacks(&r.call.handle, C.uint32_t(now), times.given(), first, C.size_t(len(numbers)), count)
 	if err := refusedBy(code); err != nil {
 		return nil, err
 	}
@@ -474,6 +484,10 @@ func (r *AccessUnitReceiver) Counts() (Counts, error) {
 	if err := refusedBy(C.h26x_access_units_count(&r.call.handle, told)); err != nil {
 		return Counts{}, err
 	}
+	return countsOf(told), nil
+}
+
+func countsOf(told *C.h26x_access_units_counts) Counts {
 	return Counts{
 		Taken:        uint64(told.taken),
 		Lost:         uint64(told.lost),
@@ -490,5 +504,5 @@ func (r *AccessUnitReceiver) Counts() (Counts, error) {
 		NoUnit:       uint64(told.no_unit),
 		Still:        uint64(told.still),
 		Unbelieved:   uint64(told.unbelieved),
-	}, nil
+	}
 }

@@ -20,10 +20,10 @@ func TestAnswerRows(t *testing.T) {
 			continue
 		}
 		columns := strings.Split(row, "|")
-		if len(columns) == 4 {
+		for len(columns) > 3 && len(columns) < 6 {
 			columns = append(columns, columns[3])
 		}
-		if len(columns) != 5 {
+		if len(columns) != 6 {
 			t.Fatal(row)
 		}
 		for i := range columns {
@@ -32,6 +32,9 @@ func TestAnswerRows(t *testing.T) {
 		offered, ours := formatOf(t, codecs[columns[0]], columns[1]), formatOf(t, codecs[columns[0]], columns[2])
 		for i, answered := range []func(*h26x.FormatParameters) (*h26x.FormatParameters, error){
 			offered.Answer, offered.AnswerAnyOrder,
+			func(ours *h26x.FormatParameters) (*h26x.FormatParameters, error) {
+				return offered.AnswerWebRTC(ours, false)
+			},
 		} {
 			got := "-"
 			answer, err := answered(ours)

@@ -65,12 +65,16 @@ type Receiver struct {
 	call     *receiving
 	// Memory in which units are written that go into slices of their own.
 	kept []byte
+	// Memory for calls of many packets, which is kept.
+	payloads []C.h26x_rtp_payload
+	told     []C.h26x_receive_told
 }
 
 // receiving is what C is given: it has no pointer of Go's. It is nil where the Receiver is closed.
 type receiving struct {
 	handle   C.h26x_receiver
 	written  C.size_t
+	taken    C.size_t
 	extra    C.uint8_t
 	outcome  C.uint32_t
 	distance C.uint16_t

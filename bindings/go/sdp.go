@@ -97,6 +97,17 @@ func (f *FormatParameters) AnswerAnyOrder(ours *FormatParameters) (*FormatParame
 	})
 }
 
+// AnswerWebRTC is the Answer as WebRTC's peers do it, of an end that takes units in decoding order or in any. H.264 without
+// profile-level-id is 42e01f, and not 42000a (libwebrtc, aiortc), so that a format without any parameter is that in
+// packetization-mode 0; who decodes Baseline or High takes an offer of its constrained profile, 42e01f or 640c1f, and
+// answers with that, which it is to send. Of H.265 interop-constraints and profile-compatibility-indicator aren't compared
+// (libwebrtc).
+func (f *FormatParameters) AnswerWebRTC(ours *FormatParameters, anyOrder bool) (*FormatParameters, error) {
+	return f.answer(ours, func(offered, ours, made *C.h26x_sdp) C.uint32_t {
+		return C.h26x_sdp_answer_webrtc(offered, ours, C.bool(anyOrder), made)
+	})
+}
+
 func (f *FormatParameters) answer(ours *FormatParameters,
 	by func(offered, ours, made *C.h26x_sdp) C.uint32_t) (*FormatParameters, error) {
 	defer lockBoth(&f.mu, &ours.mu)()

@@ -3,8 +3,9 @@
  *
  * A packetizer cuts units of coded video into the payloads of RTP packets, each within a limit. A depacketizer
  * writes the units of such payloads again, and a receiver does where packets are given with their sequence numbers,
- * and some of them may be missing. RTP's own header, RTX and some of RTCP are read and written, and RED is read. Format
- * parameters of SDP are read and answered.
+ * and some of them may be missing. RTP's own header, RTX and some of RTCP are read and written, and RED is read, one
+ * packet after the other, or by a receiver of datagrams, which gives out access units. Format parameters of SDP are
+ * read and answered.
  *
  * A handle is a struct of one pointer. No call keeps a pointer that it is given, waits, prints, or has state beside
  * its handle; memory comes from malloc, realloc and free. A handle may go from one thread to another.
@@ -13,9 +14,10 @@
  * once while none changes it.
  *
  * What may be NULL: a buffer, which then has length 0 whatever is said to be its length or its room; the pointer to
- * what isn't wanted (count, size, written, extra, received, pushed, behind, unit, counts, at, why, number, len, begin,
- * end, profile, level, name_len, value_len, said, payload_type, codec, place, sender, media, the value of a number, and an
- * RTP packet or a report that is told); and the pointer in a handle that is freed, which is then no handle: so
+ * what isn't wanted (count, size, written, extra, received, pushed, behind, taken, unit, counts, at, why, number, len, begin,
+ * end, profile, level, name_len, value_len, said, payload_type, codec, place, sender, media, told, sources that are told,
+ * counted, the value of a number, and an RTP packet or a report that is told); and the pointer in a handle that is freed,
+ * which is then no handle: so
  * set it to {0} and free it in any case. The calls whose names end in _close free a handle and write NULL into it; they
  * are functions of this header over _free, and no exports.
  *
@@ -89,7 +91,8 @@ enum h26x_codec { H26X_H264 = 264, H26X_H265 = 265, H26X_H266 = 266 };
 H26X_API const char *h26x_codec_name(uint32_t codec);
 
 /** What a call answers. All but H26X_OK are refusals, which change nothing but *written, *why, of packets that are made
- * *count and *size, and with H26X_NO_ROOM the lengths that are told. */
+ * *count and *size, and with H26X_NO_ROOM the lengths that are told; a call whose name ends in _all has taken *taken
+ * packets. */
 enum h26x_code {
     H26X_OK = 0,
     H26X_SHORT_PACKET = 1,
@@ -103,7 +106,8 @@ enum h26x_code {
     H26X_UNKNOWN_CODEC = 9,
     H26X_WRONG_END = 10,              /**< a handle of one kind where another is wanted */
     H26X_NOT_OF_THIS_CODEC = 11,      /**< decoding order numbers or a largest size for H.264 */
-    H26X_OUT_OF_RANGE = 12,           /**< a largest size under 4, a window of 0 or over 16384, no packing of h26x_packing */
+    H26X_OUT_OF_RANGE = 12,           /**< a largest size under 4, a window of 0 or over 16384, no packing of h26x_packing, a
+                                       * payload that isn't in its buffer */
     H26X_NO_ROOM = 13,                /**< what is to be written doesn't fit in the caller's memory */
     H26X_NOTHING_YET = 14,            /**< no access unit has ended */
     /* Of units that are all to be sent. why->first: the place of the first that can't go, from 0; why->second: its
@@ -467,6 +471,37 @@ H26X_API uint32_t h26x_receive(h26x_receiver *r, uint16_t sequence, const uint8_
                                uint8_t *to, size_t room, size_t *written, uint8_t *extra, uint32_t *received,
                                uint16_t *count, h26x_refusal *why) H26X_MUST_USE;
 
+/** A packet whose payload lies in a buffer with others, as recvmmsg and UDP_GRO bring them: of its RTP header what
+ * h26x_rtp_read says. */
+typedef struct {
+    size_t begin;         /**< where the payload begins in the buffer */
+    size_t end;           /**< where it ends, not before that */
+    uint32_t timestamp;   /**< h26x_receive_all doesn't look at it, nor at marker */
+    uint16_t sequence;    /**< its number */
+    bool marker;          /**< M */
+} h26x_rtp_payload;
+
+/** What h26x_receive tells of a packet, where *extra is 0 before. */
+typedef struct {
+    size_t written;       /**< how many bytes it completes */
+    h26x_refusal why;     /**< the numbers of a refusal; both 0 where it wasn't refused */
+    uint32_t code;        /**< what h26x_receive answers */
+    uint32_t received;    /**< an h26x_received; 0 where the packet was refused */
+    uint16_t count;       /**< the number that it speaks of; the same */
+    uint8_t extra;        /**< 0 nothing told, 1 units but none of a keyframe, 2 a keyframe among them */
+} h26x_receive_told;
+
+/** Takes packets as by one h26x_receive after the other, each with the room behind what those before it wrote. So what they
+ * complete stands one behind the other in `to`, *written bytes of it. told[n] says what became of the n-th; of those past
+ * `told_room` nothing is told. A packet that is late or refused is passed over. *taken is how many packets aren't to be
+ * given again, which are all where the answer is H26X_OK. H26X_NO_ROOM: the last of them, told[*taken - 1], completes what
+ * has no room, and h26x_written_copy(&r->at, ..) has it; then go on with the next. H26X_OUT_OF_MEMORY: memory lacks for the
+ * packet behind them, of which nothing is told. H26X_OUT_OF_RANGE, where a payload begins behind its end or ends behind
+ * `bytes_len`, takes none and leaves `told`, as H26X_WRONG_END does; both write 0 to *taken and *written. */
+H26X_API uint32_t h26x_receive_all(h26x_receiver *r, const uint8_t *bytes, size_t bytes_len,
+                                   const h26x_rtp_payload *payloads, size_t payloads_len, uint8_t *to, size_t room,
+                                   h26x_receive_told *told, size_t told_room, size_t *taken, size_t *written) H26X_MUST_USE;
+
 /** Passes over a number that came and bears nothing of the stream: padding alone, as congestion control sends it,
  * forward error correction, another payload type. So it isn't missing. *received is H26X_IN_ORDER, and the open unit
  * stays; or H26X_GAP, where others before it are missing, and the open unit is given up; or H26X_LATE, which changes
@@ -603,6 +638,22 @@ static inline void h26x_access_units_close(h26x_access_units *u)
 H26X_API uint32_t h26x_access_units_push(h26x_access_units *u, uint32_t now, uint16_t sequence, uint32_t timestamp,
                                          bool marker, const uint8_t *payload, size_t payload_len, uint32_t *pushed,
                                          uint16_t *behind) H26X_MUST_USE;
+
+/** What h26x_access_units_push tells of a packet. */
+typedef struct {
+    uint32_t pushed;      /**< an h26x_pushed */
+    uint16_t behind;      /**< how far it is behind the one that is due, of H26X_PUSHED_LATE; else 0 */
+} h26x_push_told;
+
+/** Takes packets that came at this tick as by one h26x_access_units_push after the other, up to the first that is H26X_FULL.
+ * told[n] says what became of the n-th; of those past `told_room` nothing is told. *taken is how many packets aren't to be
+ * given again. H26X_OK: all, or the one behind them is H26X_FULL, which told[*taken] says: take access units, and give it and
+ * those behind it again. H26X_OUT_OF_MEMORY: memory lacks for the one behind them, of which nothing is told.
+ * H26X_OUT_OF_RANGE, where a payload begins behind its end or ends behind `bytes_len`, takes none and leaves `told`, as
+ * H26X_WRONG_END does; both write 0 to *taken. */
+H26X_API uint32_t h26x_access_units_push_all(h26x_access_units *u, uint32_t now, const uint8_t *bytes, size_t bytes_len,
+                                             const h26x_rtp_payload *payloads, size_t payloads_len, h26x_push_told *told,
+                                             size_t told_room, size_t *taken) H26X_MUST_USE;
 
 /** Passes over a number that came and bears nothing of the stream: padding alone, as congestion control sends it, forward
  * error correction, another payload type. So it isn't missing. The answers are those of h26x_access_units_push. */
@@ -1019,6 +1070,141 @@ H26X_API void h26x_rtp_statistics_recover(h26x_rtp_statistics *statistics);
 H26X_API void h26x_rtp_statistics_report(h26x_rtp_statistics *statistics, uint32_t ssrc, uint32_t last_sender_report,
                                          uint32_t delay, h26x_report *report);
 
+/* ---- Receiving access units, of datagrams as a socket brings them ---- */
+
+/** A receiver of access units of one stream that is given whole datagrams: it reads RTP's header, undoes retransmissions
+ * (RTX; RFC 4588) and redundant payloads (RED; RFC 2198), puts packets in order as h26x_access_units does, and tells what
+ * to ask the sender for (RFC 4585) and what to report (RFC 3550). SRTP is the caller's to undo before. */
+typedef struct { void *at; /**< NULL: no handle */ } h26x_rtp_receiver;
+
+/** The payload types of one stream, as a session description tells them: only `media` need be set. None may be one from 64
+ * to 95, which are taken for RTCP (RFC 5761, 4), and one above 127 no packet has. */
+typedef struct {
+    uint8_t media;        /**< of the codec */
+    uint8_t rtx;          /**< of RTX whose apt is media (RFC 4588, 8.1), where has_rtx */
+    uint8_t red;          /**< of RED, where has_red */
+    uint8_t rtx_of_red;   /**< of RTX whose apt is red, as Chromium has it, where has_rtx_of_red; without has_red of none */
+    uint8_t fec;          /**< of FEC, by itself or in RED (RFC 5109, 14), where has_fec */
+    bool has_rtx;         /**< rtx is one */
+    bool has_red;         /**< red is one */
+    bool has_rtx_of_red;  /**< rtx_of_red is one */
+    bool has_fec;         /**< fec is one */
+} h26x_rtp_payload_types;
+
+/** The sources of one stream, by their SSRCs (RFC 3550, 8). */
+typedef struct {
+    uint32_t media;       /**< of its packets, where has_media; else 0, as before the first packet of the codec or of RED */
+    uint32_t rtx;         /**< of its retransmissions, where has_rtx; else 0 */
+    bool has_media;       /**< media is known, or told; else that of the first packet of the codec or of RED is followed */
+    bool has_rtx;         /**< rtx is known, or told, as by ssrc-group:FID (RFC 5576, 4.2); else it is that of the first
+                           * retransmission that bears a missing number (RFC 4588, 5.3). Tell it where several streams of a
+                           * session may miss the same number at a time, as of simulcast */
+} h26x_rtp_sources;
+
+/** What became of a datagram that was given. All but H26X_RTP_TAKEN change nothing. */
+enum h26x_became {
+    H26X_RTP_TAKEN = 0,       /**< it brought a packet of the stream */
+    H26X_RTP_RTCP = 1,        /**< it is RTCP (RFC 5761) */
+    H26X_RTP_PROBE = 2,       /**< it is a retransmission of no packet */
+    H26X_RTP_NEW_SOURCE = 3,  /**< it is of the codec or RED, and from another source: another stream, or this one with a new
+                               * SSRC, which h26x_rtp_receiver_follow takes */
+    H26X_RTP_OTHER_SOURCE = 4 /**< it is any other packet from another source, as a retransmission of another stream */
+};
+
+/** Why a packet of the stream bears nothing of the codec; its number isn't missing all the same. */
+enum h26x_no_media {
+    H26X_RTP_MEDIA = 0,         /**< it bears a payload of the codec */
+    H26X_RTP_PADDING_ALONE = 1, /**< it has no payload (RFC 3550, 5.1) */
+    H26X_RTP_FEC = 2,           /**< it bears FEC (RFC 5109), which isn't decoded */
+    H26X_RTP_OTHER_TYPE = 3     /**< it, or its primary block, has another payload type */
+};
+
+/** What is told of a datagram. */
+typedef struct {
+    uint32_t became;      /**< one of h26x_became; what is below is 0 where that doesn't say otherwise */
+    uint32_t ssrc;        /**< of H26X_RTP_NEW_SOURCE and H26X_RTP_OTHER_SOURCE: the other source */
+    uint32_t no_media;    /**< of H26X_RTP_TAKEN: one of h26x_no_media */
+    uint32_t pushed;      /**< of H26X_RTP_TAKEN: one of h26x_pushed; of a retransmission of a packet that came H26X_TWICE or
+                           * H26X_PUSHED_LATE */
+    uint16_t behind;      /**< of H26X_PUSHED_LATE: how far it is behind the one that is due */
+    uint16_t sequence;    /**< of H26X_RTP_TAKEN: its number in the stream, of a retransmission that of the original */
+    uint8_t payload_type; /**< of H26X_RTP_OTHER_TYPE: which */
+    bool is_recovered;    /**< it came as a retransmission */
+} h26x_rtp_told;
+
+/** A receiver of datagrams that follows the SSRC of the first packet of the codec or of RED. The answers are those of
+ * h26x_access_units_new. */
+H26X_API uint32_t h26x_rtp_receiver_new(const h26x_access_units_config *config, const h26x_rtp_payload_types *types,
+                                        h26x_rtp_receiver *made) H26X_MUST_USE;
+
+/** Has the settings of *config from now on, as h26x_access_units_set_config. */
+H26X_API uint32_t h26x_rtp_receiver_set_config(h26x_rtp_receiver *r, const h26x_access_units_config *config);
+
+/** Frees it with all that waits. A handle of NULL is nothing to be freed. */
+H26X_API void h26x_rtp_receiver_free(h26x_rtp_receiver r);
+
+/** The same, and writes NULL into the handle, so that it may be closed again. A pointer of NULL is nothing to be freed
+ * either. */
+static inline void h26x_rtp_receiver_close(h26x_rtp_receiver *r)
+{
+    if (r != NULL) {
+        const h26x_rtp_receiver it = *r;
+        r->at = NULL;
+        h26x_rtp_receiver_free(it);
+    }
+}
+
+/** Follows these sources from now on, as those of a session description, or of a new SSRC: all that waits or is open is
+ * dropped, any number is the next, and statistics begin anew. An access unit that had no room, and what was counted, stay.
+ * H26X_WRONG_END. */
+H26X_API uint32_t h26x_rtp_receiver_follow(h26x_rtp_receiver *r, const h26x_rtp_sources *sources);
+
+/** The sources that are followed, as far as they are known. H26X_WRONG_END leaves *sources. */
+H26X_API uint32_t h26x_rtp_receiver_sources(const h26x_rtp_receiver *r, h26x_rtp_sources *sources);
+
+/** Takes a datagram that came at this tick: RTX and RED are undone, and the packet of the stream goes where
+ * h26x_access_units_push has it; *told tells what became of it. `arrival` is the same time in ticks of the timestamps'
+ * clock, of 90000 in a second, which goes round at 2^32, for the jitter that is reported. Then call h26x_rtp_receiver_next
+ * until it has none: so none is H26X_FULL, which is to be given again, and counts as received each time.
+ * Refused is what is no RTP packet, by the codes of h26x_rtp_read, and what has no redundant payload where it should, by
+ * those of h26x_red_primary: a stranger's bytes, which are passed over; the latter's number stays missing.
+ * H26X_OUT_OF_MEMORY: the datagram can be given again; H26X_WRONG_END. All these change nothing, and leave *told. */
+H26X_API uint32_t h26x_rtp_receiver_push(h26x_rtp_receiver *r, uint32_t now, uint32_t arrival, const uint8_t *datagram,
+                                         size_t datagram_len, h26x_rtp_told *told) H26X_MUST_USE;
+
+/** The next access unit, if one has ended at this tick, as of h26x_access_units_next. */
+H26X_API uint32_t h26x_rtp_receiver_next(h26x_rtp_receiver *r, uint32_t now, uint8_t *to, size_t room,
+                                         h26x_access_unit *unit) H26X_MUST_USE;
+
+/** Whether packets wait, and not by the window alone; *at is then the tick at which to call h26x_rtp_receiver_next at the
+ * latest, and else left. False for a handle of another kind. */
+H26X_API bool h26x_rtp_receiver_deadline(const h26x_rtp_receiver *r, uint32_t *at);
+
+/** The missing numbers that are to be asked for at this tick, as of h26x_access_units_nacks: h26x_nack_write makes a packet
+ * of them, of the SSRC that h26x_rtp_receiver_sources tells. */
+H26X_API uint32_t h26x_rtp_receiver_nacks(h26x_rtp_receiver *r, uint32_t now, const h26x_nack_times *times,
+                                          uint16_t *numbers, size_t numbers_room, size_t *count) H26X_MUST_USE;
+
+/** Whether to ask for a keyframe at this tick (PLI or FIR), which then counts as asked for: by the access units that ended
+ * no decoder can go on, and none was asked for in the last `again` ticks, in which it may be on its way: a round trip and a
+ * keyframe at least. Never before an access unit ended. False for a handle of another kind. */
+H26X_API bool h26x_rtp_receiver_keyframe_wanted(h26x_rtp_receiver *r, uint32_t now, uint32_t again) H26X_MUST_USE;
+
+/** What is counted of the packets of the SSRC that is followed (RFC 3550, 6.4.1): those that came by it as received, and
+ * retransmissions that are kept as recovered. H26X_WRONG_END leaves *counted. */
+H26X_API uint32_t h26x_rtp_receiver_statistics(const h26x_rtp_receiver *r, h26x_rtp_statistics *counted);
+
+/** Whether the SSRC that is followed is known, and what is reported of it, as of h26x_rtp_statistics_report; else *report is
+ * left. False for a handle of another kind. */
+H26X_API bool h26x_rtp_receiver_report(h26x_rtp_receiver *r, uint32_t last_sender_report, uint32_t delay,
+                                       h26x_report *report);
+
+/** At the end of a stream, as h26x_access_units_finish. H26X_WRONG_END. */
+H26X_API uint32_t h26x_rtp_receiver_finish(h26x_rtp_receiver *r);
+
+/** What was counted, as of h26x_access_units_count. H26X_WRONG_END leaves *counts. */
+H26X_API uint32_t h26x_rtp_receiver_count(const h26x_rtp_receiver *r, h26x_access_units_counts *counts);
+
 /* ---- Format parameters of SDP ---- */
 
 /** What an a=fmtp line says behind the payload type (RFC 6184, 8.1; RFC 7798, 7.1; RFC 9328, 7.2). Names are those of the
@@ -1047,6 +1233,14 @@ H26X_API uint32_t h26x_sdp_answer(const h26x_sdp *offered, const h26x_sdp *ours,
 /** The same of an end that takes units in any order: that reads STAP-B, MTAP and FU-B of H.264, which depacketizers don't,
  * and puts units in order by their decoding order numbers. */
 H26X_API uint32_t h26x_sdp_answer_any_order(const h26x_sdp *offered, const h26x_sdp *ours, h26x_sdp *made) H26X_MUST_USE;
+
+/** The same as WebRTC's peers do it, of an end that takes units in decoding order or in any_order. H.264 without
+ * profile-level-id is 42e01f, and not 42000a (libwebrtc, aiortc), so that an empty text, of a format without a=fmtp, is that
+ * in packetization-mode 0; who decodes Baseline or High takes an offer of its constrained profile, 42e01f or 640c1f, and
+ * answers with that, which it is to send. Of H.265 interop-constraints and profile-compatibility-indicator aren't compared
+ * (libwebrtc). */
+H26X_API uint32_t h26x_sdp_answer_webrtc(const h26x_sdp *offered, const h26x_sdp *ours, bool any_order, h26x_sdp *made)
+    H26X_MUST_USE;
 
 /** Frees them. A handle of NULL is nothing to be freed. */
 H26X_API void h26x_sdp_free(h26x_sdp h);

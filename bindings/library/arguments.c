@@ -25,9 +25,11 @@ PROVED(depacketize);
 PROVED(written_copy);
 PROVED(receiver_free);
 PROVED(receive);
+PROVED(receive_all);
 PROVED(receiver_skip);
 PROVED(access_units_free);
 PROVED(access_units_push);
+PROVED(access_units_push_all);
 PROVED(access_units_skip);
 PROVED(access_units_next);
 PROVED(access_units_deadline);
@@ -63,6 +65,15 @@ PROVED(nack_write);
 PROVED(nack_read);
 PROVED(rtcp_next);
 PROVED(rtp_statistics_report);
+PROVED(rtp_receiver_free);
+PROVED(rtp_receiver_sources);
+PROVED(rtp_receiver_push);
+PROVED(rtp_receiver_next);
+PROVED(rtp_receiver_deadline);
+PROVED(rtp_receiver_nacks);
+PROVED(rtp_receiver_statistics);
+PROVED(rtp_receiver_report);
+PROVED(rtp_receiver_count);
 PROVED(sdp_read);
 PROVED(sdp_of_payload);
 PROVED(sdp_free);
@@ -96,12 +107,18 @@ static uint8_t no_bytes[1];
 static size_t no_ends[1];
 static uint16_t no_numbers[1];
 static h26x_capability_point no_points[1];
+static h26x_rtp_payload no_payloads[1];
+static h26x_push_told none_pushed[1];
+static h26x_receive_told none_received[1];
 
 /* A buffer and its length, as two arguments: NULL has length 0, whatever the caller says. */
 #define BYTES(at, len) WANTED(at, no_bytes), (at) != NULL ? (len) : 0
 #define ENDS(at, len) WANTED(at, no_ends), (at) != NULL ? (len) : 0
 #define NUMBERS(at, len) WANTED(at, no_numbers), (at) != NULL ? (len) : 0
 #define POINTS(at, len) WANTED(at, no_points), (at) != NULL ? (len) : 0
+#define PAYLOADS(at, len) WANTED(at, no_payloads), (at) != NULL ? (len) : 0
+#define PUSHED(at, len) WANTED(at, none_pushed), (at) != NULL ? (len) : 0
+#define RECEIVED(at, len) WANTED(at, none_received), (at) != NULL ? (len) : 0
 
 /* ---- Sending ---- */
 
@@ -267,6 +284,15 @@ uint32_t h26x_receive(h26x_receiver *r, uint16_t sequence, const uint8_t *packet
                            why);
 }
 
+uint32_t h26x_receive_all(h26x_receiver *r, const uint8_t *bytes, size_t bytes_len,
+                          const h26x_rtp_payload *payloads, size_t payloads_len, uint8_t *to, size_t room,
+                          h26x_receive_told *told, size_t told_room, size_t *taken, size_t *written)
+{
+    size_t unwanted[2];
+    return proved_receive_all(r, BYTES(bytes, bytes_len), PAYLOADS(payloads, payloads_len), BYTES(to, room),
+                              RECEIVED(told, told_room), WANTED(taken, &unwanted[0]), WANTED(written, &unwanted[1]));
+}
+
 uint32_t h26x_receiver_skip(h26x_receiver *r, uint16_t sequence, uint32_t *received, uint16_t *count)
 {
     uint32_t unwanted_received;
@@ -291,6 +317,15 @@ uint32_t h26x_access_units_push(h26x_access_units *u, uint32_t now, uint16_t seq
     uint16_t unwanted_behind;
     return proved_access_units_push(u, now, sequence, timestamp, marker, BYTES(payload, payload_len),
                                     WANTED(pushed, &unwanted_pushed), WANTED(behind, &unwanted_behind));
+}
+
+uint32_t h26x_access_units_push_all(h26x_access_units *u, uint32_t now, const uint8_t *bytes, size_t bytes_len,
+                                    const h26x_rtp_payload *payloads, size_t payloads_len, h26x_push_told *told,
+                                    size_t told_room, size_t *taken)
+{
+    size_t unwanted;
+    return proved_access_units_push_all(u, now, BYTES(bytes, bytes_len), PAYLOADS(payloads, payloads_len),
+                                        PUSHED(told, told_room), WANTED(taken, &unwanted));
 }
 
 uint32_t h26x_access_units_skip(h26x_access_units *u, uint32_t now, uint16_t sequence, uint32_t *pushed,
@@ -533,6 +568,66 @@ void h26x_rtp_statistics_report(h26x_rtp_statistics *statistics, uint32_t ssrc, 
 {
     h26x_report unwanted;
     proved_rtp_statistics_report(statistics, ssrc, last_sender_report, delay, WANTED(report, &unwanted));
+}
+
+/* ---- Receiving access units, of datagrams ---- */
+
+void h26x_rtp_receiver_free(h26x_rtp_receiver r)
+{
+    if (r.at != NULL)
+        proved_rtp_receiver_free(r);
+}
+
+uint32_t h26x_rtp_receiver_sources(const h26x_rtp_receiver *r, h26x_rtp_sources *sources)
+{
+    h26x_rtp_sources unwanted;
+    return proved_rtp_receiver_sources(r, WANTED(sources, &unwanted));
+}
+
+uint32_t h26x_rtp_receiver_push(h26x_rtp_receiver *r, uint32_t now, uint32_t arrival, const uint8_t *datagram,
+                                size_t datagram_len, h26x_rtp_told *told)
+{
+    h26x_rtp_told unwanted;
+    return proved_rtp_receiver_push(r, now, arrival, BYTES(datagram, datagram_len), WANTED(told, &unwanted));
+}
+
+uint32_t h26x_rtp_receiver_next(h26x_rtp_receiver *r, uint32_t now, uint8_t *to, size_t room,
+                                h26x_access_unit *unit)
+{
+    h26x_access_unit unwanted;
+    return proved_rtp_receiver_next(r, now, BYTES(to, room), WANTED(unit, &unwanted));
+}
+
+bool h26x_rtp_receiver_deadline(const h26x_rtp_receiver *r, uint32_t *at)
+{
+    uint32_t unwanted;
+    return proved_rtp_receiver_deadline(r, WANTED(at, &unwanted));
+}
+
+uint32_t h26x_rtp_receiver_nacks(h26x_rtp_receiver *r, uint32_t now, const h26x_nack_times *times,
+                                 uint16_t *numbers, size_t numbers_room, size_t *count)
+{
+    size_t unwanted;
+    return proved_rtp_receiver_nacks(r, now, times, NUMBERS(numbers, numbers_room), WANTED(count, &unwanted));
+}
+
+uint32_t h26x_rtp_receiver_statistics(const h26x_rtp_receiver *r, h26x_rtp_statistics *counted)
+{
+    h26x_rtp_statistics unwanted;
+    return proved_rtp_receiver_statistics(r, WANTED(counted, &unwanted));
+}
+
+bool h26x_rtp_receiver_report(h26x_rtp_receiver *r, uint32_t last_sender_report, uint32_t delay,
+                              h26x_report *report)
+{
+    h26x_report unwanted;
+    return proved_rtp_receiver_report(r, last_sender_report, delay, WANTED(report, &unwanted));
+}
+
+uint32_t h26x_rtp_receiver_count(const h26x_rtp_receiver *r, h26x_access_units_counts *counts)
+{
+    h26x_access_units_counts unwanted;
+    return proved_rtp_receiver_count(r, WANTED(counts, &unwanted));
 }
 
 /* ---- Format parameters of SDP ---- */

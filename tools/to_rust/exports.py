@@ -3,11 +3,12 @@
 | In Rattle | In Rust | Reason |
 |---|---|---|
 | `#[unsafe(no_mangle)] pub extern "C" fn h26x_x(..)` | `pub fn h26x_x(..)` of the same body; in a module `exports` of the crate a function of C's form that calls it | the body stays safe, and all that C gives is taken in one file |
-| `x: &[u8]`, `x: &[u16]` of an export | `x: *const u8, x_len: usize`, then `items(x, x_len)` | NULL has length 0 |
-| `to: &mut [u8]`, `name_to: &mut [u8]`, `ends: &mut [usize]`, `numbers: &mut [u16]`, `points: &mut [PointNumbers]`, `packet: &mut [u8]` | the same, as `room`, `name_room`, `ends_room`, `numbers_room`, `points_room` and `packet_len`, then `room(..)` | as the header names them; a struct of `ENTRIES` is of numbers alone, so that any memory is one |
+| `x: &[u8]`, `x: &[u16]`, `x: &[RtpPayload]` of an export | `x: *const u8, x_len: usize`, then `items(x, x_len)` | NULL has length 0 |
+| `to: &mut [u8]`, `name_to: &mut [u8]`, `ends: &mut [usize]`, `numbers: &mut [u16]`, `points: &mut [PointNumbers]`, `told: &mut [PushTold]`, `told: &mut [ReceivedTold]`, `packet: &mut [u8]` | the same, as `room`, `name_room`, `ends_room`, `numbers_room`, `points_room`, `told_room` and `packet_len`, then `room(..)` | as the header names them; a struct of `ENTRIES` is of numbers alone, so that any memory is one |
 | `x: &Config` of an export, and the other types of `LOOKED_AT` | `x: *const Config`, then `shared(x)` | it is there |
 | `x: &mut usize`, and the other types of `OUTPUTS`, which nothing reads; of all functions of the crates that C reaches | `x: &mut MaybeUninit<usize>`, `*x = y` is `x.write(y)`; of an export `x: *mut usize`, then `output(x, ..)` | C leaves it uninitialised; NULL isn't wanted |
 | `extra: &mut u8` of an export, which it reads | `extra: *mut u8`, then `in_out(extra, ..)` | NULL is read as 0 |
+| `counted: &mut Statistics` | as other outputs | nothing reads it, though other calls lend one |
 | `x: &mut Place`, `x: &mut Handle`, `x: &mut Statistics`, `x: &ConstHandle` | `x: *mut Place`, then `made(x)`; `x: *mut Handle`, then `lent(x)`; `x: *const ConstHandle`, then `shared(x)` | they are there |
 | `x: Handle` | by value; of NULL the call returns | it is nothing to be freed |
 | numbers and `bool` | the same | |
@@ -27,13 +28,18 @@ REACHED = {"h26x_codes", "h26x_sdp_handles", "h26x_handles", "h26x_endpoint", "h
 UNSAFE = {"h26x_c"}
 NUMBERS = {"u8", "u16", "u32", "u64", "usize"}
 # What a call writes for C. `Place` is where a handle is written.
-OUTPUTS = NUMBERS | {"Refusal", "Shown", "Place", "UnitTold", "Counts", "ConstraintNumbers", "RtpPlaces", "Report"}
+OUTPUTS = NUMBERS | {"Refusal", "Shown", "Place", "UnitTold", "Counts", "ConstraintNumbers", "RtpPlaces", "Report",
+                     "Sources", "DatagramTold"}
 # What C gives rows of to be written: numbers, and structs of nothing else.
-ENTRIES = {"u8", "u16", "usize", "PointNumbers"}
+ENTRIES = {"u8", "u16", "usize", "PointNumbers", "PushTold", "ReceivedTold"}
+# What C gives rows of to be looked at.
+ROWS = {"u8", "u16", "RtpPayload"}
 # What a call only looks at: a handle, and what a caller sets.
-LOOKED_AT = {"ConstHandle", "Config", "NackTimes", "RtpFields", "Report"}
+LOOKED_AT = {"ConstHandle", "Config", "NackTimes", "RtpFields", "Report", "PayloadTypes", "Sources"}
 # What a call reads and changes.
 LENT = {"Handle", "Statistics"}
+# Of these the outputs that are only written, with their names.
+WRITTEN = {("counted", "Statistics")}
 # What the header says is in and out: C gives a number there, and of no other output.
 IN_OUT = {"extra"}
 # Parameters that the header names otherwise.
@@ -70,6 +76,11 @@ def parameters(function):
             yield name.removeprefix("mut "), kind
 
 
+def is_output(name, kind):
+    """Whether C is told by a parameter of this type."""
+    return kind in OUTPUTS or (name, kind) in WRITTEN
+
+
 def write_outputs(items):
     """Gives parameters that are only written the type of memory that may be uninitialised."""
     for function in functions(items):
@@ -78,7 +89,7 @@ def write_outputs(items):
         inner = function.parameters.items
         for name, kind in parameters(function):
             of = re.fullmatch(r"& mut (\w+)", kind)
-            if of and of[1] in OUTPUTS and not is_read(name, function.body.items):
+            if of and is_output(name, of[1]) and not is_read(name, function.body.items):
                 place = next(i for i, it in enumerate(inner)
                              if is_word(it, name) and is_sign(at(inner, after(inner, i)), ":"))
                 place = next(i for i in range(place, len(inner)) if is_word(inner[i], of[1]))
@@ -196,9 +207,12 @@ class Exports:
         kinds = {"ConstHandle": "const_handle", "Handle": "handle", "Place": "place", "Shown": "shown",
                  "Config": "access_units", "Counts": "access_units",
                  "NackTimes": "access_units", "RtpFields": "rtp", "RtpPlaces": "rtp", "Report": "rtcp",
-                 "Statistics": "rtcp"}
+                 "Statistics": "rtcp", "PayloadTypes": "rtp_receiver", "Sources": "rtp_receiver",
+                 "DatagramTold": "rtp_receiver"}
         uses += [f"pub use super::{file}::{kind};" for kind, file in kinds.items() if re.search(rf"\b{kind}\b", used)]
         below = {"Refusal": "h26x_codes::code", "UnitTold": "h26x_handles::access_units",
+                 "RtpPayload": "h26x_handles::payloads", "PushTold": "h26x_handles::push_all",
+                 "ReceivedTold": "h26x_handles::receive_all",
                  "ConstraintNumbers": "h26x_sdp_handles::sdp_values", "PointNumbers": "h26x_sdp_handles::sdp_values"}
         uses += [f"pub use crate::proved::{file}::{kind};" for kind, file in below.items() if kind in used]
         return "\n".join([HEAD, *uses, "", *calls])
@@ -209,7 +223,7 @@ class Exports:
         for name, kind in parameters(function):
             name = NAMES.get(name.lstrip("_"), name.lstrip("_"))
             items = re.fullmatch(r"& (mut )?\[(\w+)\]", kind)
-            items = items if items and items[2] in (ENTRIES if items[1] else {"u8", "u16"}) else None
+            items = items if items and items[2] in (ENTRIES if items[1] else ROWS) else None
             output = re.fullmatch(r"& mut (?:MaybeUninit < (\w+) >|(\w+))", kind)
             looked_at = re.fullmatch(r"& (\w+)", kind)
             if items and items[1]:
@@ -226,7 +240,7 @@ class Exports:
             elif looked_at and looked_at[1] in LOOKED_AT:
                 taken.append(f"{name}: *const {looked_at[1]}")
                 given.append(f"pointers::shared({name})")
-            elif output and output[1] in OUTPUTS:
+            elif output and is_output(name, output[1]):
                 taken.append(f"{name}: *mut {output[1]}")
                 first.append(f"let mut no_{name} = MaybeUninit::uninit();")
                 given.append(f"pointers::output({name}, &mut no_{name})")

@@ -1,5 +1,6 @@
 """Which answers the RFCs have, read plainly: tables that are walked, over parameters as a dict (RFC 6184, 8.1 and 8.2.2;
-RFC 7798, 7.1 and 7.2.2). It shares nothing with the library."""
+RFC 7798, 7.1 and 7.2.2); and which WebRTC's peers have (libwebrtc, h264_profile_level_id.cc and codec_comparators.cc). It
+shares nothing with the library."""
 
 from typing import Dict, NamedTuple, Optional, Tuple, Union
 
@@ -24,6 +25,20 @@ H42I 7A 00010000
 H44I F4 00010000
 C44I 2C 00010000
 """
+
+# libwebrtc's kProfilePatterns, and which of these profiles a decoder of another takes besides.
+WEBRTC_PROFILES = """
+CB 42 x1xx0000
+CB 4D 1xxx0000
+CB 58 11xx0000
+B 42 x0xx0000
+B 58 10xx0000
+M 4D 0x0x0000
+H 64 00000000
+CH 64 00001100
+H44 F4 00000000
+"""
+CONSTRAINED = {("CB", "B"), ("CH", "H")}
 
 # Rec. ITU-T H.264, table A-1: the level, MaxMBPS, MaxFS, MaxDpbMbs, MaxBR and MaxCPB.
 H264_LEVELS = """
@@ -82,14 +97,14 @@ class H264Answer(NamedTuple):
     asymmetric: bool
 
 
-def h264_bytes(it: Parameters) -> bytes:
+def h264_bytes(it: Parameters, webrtc: bool) -> bytes:
     """The three bytes of profile and level."""
-    return bytes.fromhex(it.get("profile-level-id", "42000a"))
+    return bytes.fromhex(it.get("profile-level-id", "42e01f" if webrtc else "42000a"))
 
 
-def h264_profile(idc: int, iop: int) -> Union[str, Tuple[int, int]]:
-    """The sub-profile of table 5, or where it has none the bytes that say one."""
-    for row in SUB_PROFILES.split("\n"):
+def h264_profile(idc: int, iop: int, table: str = SUB_PROFILES) -> Union[str, Tuple[int, int]]:
+    """The sub-profile of a table, or where it has none the bytes that say one."""
+    for row in table.split("\n"):
         name, number, pattern = row.split() if row else ("", "0", "")
         if int(number, 16) == idc and all(
             place in ("x", bit) for place, bit in zip(pattern, f"{iop:08b}")
@@ -118,9 +133,17 @@ def h264_received(digits: str) -> Optional[str]:
     return "1b" if (level, bool(iop & 16)) in ((11, True), (9, False)) else numbered(level)
 
 
-def h264_is_allowed(own: Parameters) -> bool:
+def h264_takes(theirs: bytes, ours: bytes, webrtc: bool) -> bool:
+    """Whether an end takes an offered profile."""
+    if h264_profile(theirs[0], theirs[1]) == h264_profile(ours[0], ours[1]):
+        return True
+    pair = tuple(h264_profile(it[0], it[1], WEBRTC_PROFILES) for it in (theirs, ours))
+    return webrtc and pair in CONSTRAINED
+
+
+def h264_is_allowed(own: Parameters, webrtc: bool) -> bool:
     """Whether an end may say this of itself."""
-    level = top = h264_level(h264_bytes(own))
+    level = top = h264_level(h264_bytes(own, webrtc))
     if level is None:
         return False
     if "max-recv-level" in own:
@@ -139,15 +162,17 @@ def h264_is_allowed(own: Parameters) -> bool:
     return all(needed) if own.get("packetization-mode") == "2" else not any(needed + others)
 
 
-def h264_answer(offer: Parameters, own: Parameters, any_order: bool) -> Optional[H264Answer]:
-    """What an answer of H.264 says, if there's one: of units in decoding order, or in any."""
-    theirs, ours = h264_bytes(offer), h264_bytes(own)
+def h264_answer(
+    offer: Parameters, own: Parameters, any_order: bool, webrtc: bool
+) -> Optional[H264Answer]:
+    """What an answer of H.264 says, if there's one: of units in decoding order, or in any; by the RFC, or as WebRTC's
+    peers do it."""
+    theirs, ours = h264_bytes(offer, webrtc), h264_bytes(own, webrtc)
     low, high = h264_level(theirs), h264_level(ours)
     mode = own.get("packetization-mode", "0")
-    if low is None or high is None or not h264_is_allowed(own):
+    if low is None or high is None or not h264_is_allowed(own, webrtc):
         return None
-    profile = h264_profile(theirs[0], theirs[1])
-    if profile != h264_profile(ours[0], ours[1]) or mode != offer.get("packetization-mode", "0"):
+    if not h264_takes(theirs, ours, webrtc) or mode != offer.get("packetization-mode", "0"):
         return None
     for sender, receiver in ((offer, own), (own, offer)):
         told = "sprop-interleaving-depth" in sender and "sprop-deint-buf-req" in sender
@@ -155,20 +180,20 @@ def h264_answer(offer: Parameters, own: Parameters, any_order: bool) -> Optional
         if mode == "2" and not (any_order and told and int(sender["sprop-deint-buf-req"]) <= room):
             return None
     asymmetric = all(it.get("level-asymmetry-allowed") == "1" for it in (offer, own))
+    profile = h264_profile(theirs[0], theirs[1])
     return H264Answer(high if asymmetric else min(low, high, key=ORDER.index), profile, asymmetric)
 
 
-def h265_configuration(it: Parameters) -> Tuple[object, ...]:
+def h265_configuration(it: Parameters, webrtc: bool) -> Tuple[object, ...]:
     """What both ends have to say."""
     profile = int(it.get("profile-id", "1"))
     flags = it.get("profile-compatibility-indicator")
-    return (
+    compared = profile, int(it.get("tier-flag", "0")), it.get("tx-mode", "SRST").upper()
+    return compared if webrtc else (
+        *compared,
         int(it.get("profile-space", "0")),
-        profile,
-        int(it.get("tier-flag", "0")),
         it.get("interop-constraints", "b00000000000").lower(),
         1 << (31 - profile) if flags is None else int(flags, 16),
-        it.get("tx-mode", "SRST").upper(),
     )
 
 
@@ -194,12 +219,14 @@ def h265_is_allowed(own: Parameters) -> bool:
     return int(own.get("sprop-max-don-diff", "0")) == 0 or min(held) > 0
 
 
-def h265_answer(offer: Parameters, own: Parameters, any_order: bool) -> Optional[Tuple[int, int]]:
+def h265_answer(
+    offer: Parameters, own: Parameters, any_order: bool, webrtc: bool
+) -> Optional[Tuple[int, int]]:
     """The level of an answer of H.265 and the highest that it receives, if there's one: of units in
-    decoding order, or in any."""
+    decoding order, or in any; by the RFC, or as WebRTC's peers do it."""
     if not (h265_is_known(offer) and h265_is_allowed(own)):
         return None
-    if h265_configuration(offer) != h265_configuration(own):
+    if h265_configuration(offer, webrtc) != h265_configuration(own, webrtc):
         return None
     for sender, receiver in ((offer, own), (own, offer)):
         units, need = (int(sender.get(f"sprop-depack-buf-{it}", "0")) for it in ("nalus", "bytes"))

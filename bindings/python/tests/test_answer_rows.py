@@ -16,8 +16,9 @@ def test_answers(row: str) -> None:
     codec, offer, ours, *wanted = (column.strip() for column in row.split("|"))
     offered = FormatParameters.read(CODECS[codec], offer)
     own = FormatParameters.read(CODECS[codec], ours)
-    answers = offered.answer(own), offered.answer(own, any_order=True)
-    assert ["-" if it is None else str(it) for it in answers] == [wanted[0], wanted[-1]]
+    answers = offered.answer(own), offered.answer(own, any_order=True), offered.answer(own, webrtc=True)
+    wanted += [wanted[0]] * (3 - len(wanted))
+    assert ["-" if it is None else str(it) for it in answers] == wanted
 
 
 def test_rows() -> None:

@@ -5,7 +5,15 @@ from typing import Dict, Optional, Sequence, Tuple
 
 import pytest
 from h26x import Codec, FormatParameters
-from plain_answers import H264Answer, Parameters, h264_answer, h264_level, h264_profile, h265_answer
+from plain_answers import (
+    H264Answer,
+    Parameters,
+    h264_answer,
+    h264_bytes,
+    h264_level,
+    h264_profile,
+    h265_answer,
+)
 
 # Each parameter: how often of a hundred it's given, and its values.
 Draws = Dict[str, Tuple[int, Sequence[str]]]
@@ -64,15 +72,26 @@ def pair(draws: Draws, lot: random.Random) -> Tuple[Parameters, Parameters]:
     return offer, own
 
 
+def settings(lot: random.Random) -> Tuple[bool, bool]:
+    """Whether units are taken in any order, and whether answers are as WebRTC's peers do it."""
+    return lot.randrange(2) == 1, lot.randrange(2) == 1
+
+
+def said_of(answer: FormatParameters) -> Parameters:
+    """What an answer says of profile and level."""
+    said = answer.value("profile-level-id")
+    return {} if said is None else {"profile-level-id": said}
+
+
 def answered(
-    codec: Codec, offer: Parameters, own: Parameters, any_order: bool
+    codec: Codec, offer: Parameters, own: Parameters, any_order: bool, webrtc: bool
 ) -> Optional[FormatParameters]:
     """The library's answer."""
     offered, ours = (
         FormatParameters.read(codec, ";".join(f"{name}={value}" for name, value in it.items()))
         for it in (offer, own)
     )
-    return offered.answer(ours, any_order=any_order)
+    return offered.answer(ours, any_order=any_order, webrtc=webrtc)
 
 
 @pytest.mark.parametrize("seed", range(4))
@@ -80,14 +99,14 @@ def test_h264(seed: int) -> None:
     """Level, profile and asymmetry are those of the plain reading."""
     lot, answers = random.Random(seed), 0
     for _ in range(2000):
-        (offer, own), any_order = pair(H264, lot), lot.randrange(2) == 1
-        answer, got = answered(Codec.H264, offer, own, any_order), None
+        (offer, own), (any_order, webrtc) = pair(H264, lot), settings(lot)
+        answer, got = answered(Codec.H264, offer, own, any_order, webrtc), None
         if answer is not None:
-            said = bytes.fromhex(answer.value("profile-level-id") or "42000a")
+            said = h264_bytes(said_of(answer), webrtc)
             is_asymmetric = answer.value("level-asymmetry-allowed") == "1"
             got = H264Answer(h264_level(said) or "", h264_profile(said[0], said[1]), is_asymmetric)
             answers += 1
-        assert got == h264_answer(offer, own, any_order), (offer, own, any_order)
+        assert got == h264_answer(offer, own, any_order, webrtc), (offer, own, any_order, webrtc)
     assert answers > 100
 
 
@@ -96,11 +115,11 @@ def test_h265(seed: int) -> None:
     """The level and the highest that is received are those of the plain reading."""
     lot, answers = random.Random(seed), 0
     for _ in range(2000):
-        (offer, own), any_order = pair(H265, lot), lot.randrange(2) == 1
-        answer, got = answered(Codec.H265, offer, own, any_order), None
+        (offer, own), (any_order, webrtc) = pair(H265, lot), settings(lot)
+        answer, got = answered(Codec.H265, offer, own, any_order, webrtc), None
         if answer is not None:
             level = answer.number("level-id", or_default=True) or 0
             got = (level, max(level, answer.number("max-recv-level-id") or 0))
             answers += 1
-        assert got == h265_answer(offer, own, any_order), (offer, own, any_order)
+        assert got == h265_answer(offer, own, any_order, webrtc), (offer, own, any_order, webrtc)
     assert answers > 100

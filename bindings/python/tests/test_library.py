@@ -37,6 +37,7 @@ TYPES: Dict[str, Any] = {
     "const char *": c_char_p,
     "const uint8_t *": c_char_p,
     "const uint16_t *": c_char_p,
+    "const h26x_rtp_payload *": c_char_p,
     "uint8_t *": _library._BYTE,
     "uint16_t *": _library._SHORT,
     "uint32_t *": _library._WORD,
@@ -49,16 +50,23 @@ TYPES: Dict[str, Any] = {
     "h26x_access_unit *": _library._UNIT,
     "h26x_access_units_counts *": _library._COUNTS,
     "h26x_constraints *": _library._SAID,
+    "h26x_refusal": _library.Refusal,
     "h26x_rtp_header": _library.RtpFields,
     "const h26x_rtp_header *": _library._FIELDS,
     "h26x_rtp_packet *": _library._PLACES,
     "const h26x_report *": _library._REPORT,
     "h26x_report *": _library._REPORT,
     "h26x_rtp_statistics *": _library._STATISTICS,
+    "const h26x_rtp_payload_types *": _library._TYPES,
+    "const h26x_rtp_sources *": _library._SOURCES,
+    "h26x_rtp_sources *": _library._SOURCES,
+    "h26x_rtp_told *": _library._DATAGRAM,
 }
 
 #: A pointer to one number, or to as many as there is room for: told apart by the name.
-ROOMS = dict.fromkeys(("to", "ends", "numbers", "points", "name_to", "value_to"), c_void_p)
+ROOMS = dict.fromkeys(
+    ("to", "ends", "numbers", "points", "name_to", "value_to", "told"), c_void_p
+)
 
 #: The structs of the header that are more than a handle.
 STRUCTS: Dict[str, Any] = {
@@ -70,10 +78,16 @@ STRUCTS: Dict[str, Any] = {
     "h26x_access_units_counts": _library.UnitsCounts,
     "h26x_constraints": _library.ConstraintsSaid,
     "h26x_capability_point": _library.PointNumbers,
+    "h26x_rtp_payload": _library.RtpPayload,
+    "h26x_push_told": _library.PushTold,
+    "h26x_receive_told": _library.ReceiveTold,
     "h26x_rtp_header": _library.RtpFields,
     "h26x_rtp_packet": _library.RtpPlaces,
     "h26x_report": _library.ReportGiven,
     "h26x_rtp_statistics": _library.StatisticsKept,
+    "h26x_rtp_payload_types": _library.PayloadTypesGiven,
+    "h26x_rtp_sources": _library.SourcesGiven,
+    "h26x_rtp_told": _library.DatagramTold,
 }
 
 HANDLES = (
@@ -81,6 +95,7 @@ HANDLES = (
     "h26x_depacketizer",
     "h26x_receiver",
     "h26x_access_units",
+    "h26x_rtp_receiver",
     "h26x_sdp",
 )
 
@@ -90,7 +105,8 @@ def ctype(declared: str, name: str) -> Any:
     if re.sub("^const | \\*$", "", declared) in HANDLES:
         return _library._HANDLE if declared.endswith("*") else _library.Handle
     several = ("uint8_t *", "uint16_t *", "size_t *", "h26x_capability_point *")
-    if declared in several and name in ROOMS:
+    told = ("h26x_push_told *", "h26x_receive_told *")
+    if declared in several + told and name in ROOMS:
         return ROOMS[name]
     return TYPES[declared]
 

@@ -8,3 +8,6 @@ pub mod AccessUnits
 pub mod Endpoints
 pub mod Rtp
 pub mod Rtcp
+pub mod RtpReceivers
+pub mod PushAll
+pub mod ReceiveAll

@@ -18,8 +18,8 @@ use Rattle.h26x_c.specs.declared.rtcp.Report.{Report}
 use Rattle.h26x_c.specs.declared.rtcp.Statistics.{Statistics}
 
 -- bytes are written to the front of memory where there is room, and the answer says how many
-abbrev pub AreWritten : List ℕ → List ℕ → List ℕ → ℕ → ℕ → ℕ → Type 0
-AreWritten bytes to new_to old_len code len = (answer : Result ℕ RtpWriteError)
+abbrev pub IsWrittenAnswer : List ℕ → List ℕ → List ℕ → ℕ → ℕ → ℕ → Type 0
+IsWrittenAnswer bytes to new_to old_len code len = (answer : Result ℕ RtpWriteError)
     × IsBytesWritten bytes to new_to answer × ((code, len) ≡ written_answer answer old_len)
 
 -- a report block as C has it, and as it is

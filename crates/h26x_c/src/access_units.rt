@@ -72,7 +72,7 @@ pub struct Counts {
 }
 
 /// The settings of a receiver.
-fn settings(config: &Config) -> AccessUnitConfig
+pub fn settings(config: &Config) -> AccessUnitConfig
     ensures { result ≡ units_config config.now }
 {
     AccessUnitConfig {
@@ -89,7 +89,7 @@ fn settings(config: &Config) -> AccessUnitConfig
 }
 
 /// When a receiver asks for missing numbers.
-fn nack_times(times: &NackTimes) -> h26x_access_units::NackTimes
+pub fn nack_times(times: &NackTimes) -> h26x_access_units::NackTimes
     ensures { result ≡ nack_times times.now }
 {
     h26x_access_units::NackTimes {
@@ -100,7 +100,7 @@ fn nack_times(times: &NackTimes) -> h26x_access_units::NackTimes
 }
 
 /// What was counted, as C is told it.
-fn counts_told(counts: h26x_access_units::Counts) -> Counts
+pub fn counts_told(counts: h26x_access_units::Counts) -> Counts
     ensures { result ≡ counts_told counts }
 {
     Counts {

@@ -50,7 +50,7 @@ pub struct Statistics {
 }
 
 /// A report block as C has it.
-fn report_of(block: ReportBlock) -> Report
+pub fn report_of(block: ReportBlock) -> Report
     ensures { result ≡ spec.report_of block }
 {
     Report {
@@ -107,7 +107,7 @@ fn statistics_in(it: &Statistics) -> RtpStatistics
 }
 
 /// What C holds of what was counted.
-fn statistics_told(it: RtpStatistics) -> Statistics
+pub fn statistics_told(it: RtpStatistics) -> Statistics
     ensures { result ≡ spec.statistics_told it }
 {
     Statistics {
@@ -130,7 +130,7 @@ fn statistics_told(it: RtpStatistics) -> Statistics
 /// Writes a picture loss indication (PLI).
 #[unsafe(no_mangle)]
 pub extern "C" fn h26x_pli_write(sender: u32, media: u32, to: &mut [u8], len: &mut usize) -> u32
-    ensures { spec.AreWritten (picture_loss_bytes (record { sender = sender; media = media }))
+    ensures { spec.IsWrittenAnswer (picture_loss_bytes (record { sender = sender; media = media }))
         to.old to.new len.old result len.new }
 {
     written(PictureLoss { sender, media }.write(to), len)
@@ -161,7 +161,7 @@ pub extern "C" fn h26x_fir_write(
     to: &mut [u8],
     len: &mut usize,
 ) -> u32
-    ensures { spec.AreWritten (intra_request_bytes
+    ensures { spec.IsWrittenAnswer (intra_request_bytes
         (record { sender = sender; media = media; number = number }))
         to.old to.new len.old result len.new }
 {
@@ -203,7 +203,7 @@ pub extern "C" fn h26x_receiver_report_write(
     to: &mut [u8],
     len: &mut usize,
 ) -> u32
-    ensures { spec.AreWritten (receiver_report_bytes
+    ensures { spec.IsWrittenAnswer (receiver_report_bytes
         (record { sender = sender; block = spec.block_of report.now }))
         to.old to.new len.old result len.new }
 {

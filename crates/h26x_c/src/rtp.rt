@@ -45,7 +45,7 @@ pub struct RtpPlaces {
 }
 
 /// Why bytes are no packet, as a code.
-fn code_of_reading(error: RtpError) -> u32
+pub fn code_of_reading(error: RtpError) -> u32
     ensures { result ≡ spec.rtp_code error }
 {
     match error {
@@ -249,7 +249,7 @@ pub extern "C" fn h26x_rtx_write(
 }
 
 /// Why bytes are no redundant payload, as a code.
-fn code_of_red(error: RedError) -> u32
+pub fn code_of_red(error: RedError) -> u32
     ensures { result ≡ spec.red_code error }
 {
     match error {

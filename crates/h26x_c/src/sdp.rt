@@ -6,6 +6,7 @@ ghost use Rattle.h26x_codec.specs.declared.codec.Codec.{Codec};
 ghost use Rattle.h26x_fmtp.specs.Pairs.{Pair};
 ghost use Rattle.h26x_sdp_handles.specs.declared.sdp_code.PointRefused.{PointRefused};
 ghost use Rattle.h26x_sdp_handles.specs.declared.sdp_code.Refused.{Refused};
+ghost use Rattle.h26x_answers.specs.declared.answer.AnswerRules.TheVariants.{Rfc, Webrtc};
 ghost use Rattle.h26x_codes.specs.Codes.{codec_with_number, ok, out_of_memory, unknown_codec, wrong_end};
 ghost use Rattle.h26x_codes.specs.Copies.{with_front};
 ghost use Rattle.h26x_sdp_handles.specs.Sdp.{sdp_read, sdp_of_units, OfPayloadUnits, sdp_text, sdp_value, sdp_number, sdp_max_don_diff};
@@ -17,7 +18,7 @@ use crate::const_handle::ConstHandle;
 use crate::copied::copy_out;
 use crate::handle::Handle;
 use crate::place::{Place, put};
-use h26x_answers::AnswerConfig;
+use h26x_answers::{AnswerConfig, AnswerRules};
 use h26x_codes::code::{NO_ROOM, OK, OUT_OF_MEMORY, Refusal, UNKNOWN_CODEC, WRONG_END, codec_of};
 use h26x_codes::copy::{copy_first, copy_where_room};
 use h26x_endpoint::endpoint::Endpoint;
@@ -134,17 +135,15 @@ pub extern "C" fn h26x_sdp_answer(
 ) -> u32
     ensures wrong { (is_sdp offered.now.value && is_sdp ours.now.value) ≡ false →
         result ≡ wrong_end }
-    ensures answer { IsMade (endpoint_answer (record { any_order = false }) offered.now.value
-        ours.now.value) result made.new.value }
+    ensures answer { IsMade (endpoint_answer (record { any_order = false; rules = Rfc })
+        offered.now.value ours.now.value) result made.new.value }
     ensures kept { result ≢ ok → made.new ≡ made.old }
 {
-    answered(
-        alloc,
-        AnswerConfig { any_order: false },
-        offered,
-        ours,
-        made,
-    )
+    let config = AnswerConfig {
+        any_order: false,
+        rules: AnswerRules::Rfc,
+    };
+    answered(alloc, config, offered, ours, made)
 }
 
 /// The same of units in any order.
@@ -157,11 +156,37 @@ pub extern "C" fn h26x_sdp_answer_any_order(
 ) -> u32
     ensures wrong { (is_sdp offered.now.value && is_sdp ours.now.value) ≡ false →
         result ≡ wrong_end }
-    ensures answer { IsMade (endpoint_answer (record { any_order = true }) offered.now.value
-        ours.now.value) result made.new.value }
+    ensures answer { IsMade (endpoint_answer (record { any_order = true; rules = Rfc })
+        offered.now.value ours.now.value) result made.new.value }
     ensures kept { result ≢ ok → made.new ≡ made.old }
 {
-    answered(alloc, AnswerConfig { any_order: true }, offered, ours, made)
+    let config = AnswerConfig {
+        any_order: true,
+        rules: AnswerRules::Rfc,
+    };
+    answered(alloc, config, offered, ours, made)
+}
+
+/// The same as WebRTC's peers do it, of units in decoding order or in any.
+#[unsafe(no_mangle)]
+pub extern "C" fn h26x_sdp_answer_webrtc(
+    alloc: Global,
+    offered: &ConstHandle,
+    ours: &ConstHandle,
+    any_order: bool,
+    made: &mut Place,
+) -> u32
+    ensures wrong { (is_sdp offered.now.value && is_sdp ours.now.value) ≡ false →
+        result ≡ wrong_end }
+    ensures answer { IsMade (endpoint_answer (record { any_order = any_order; rules = Webrtc })
+        offered.now.value ours.now.value) result made.new.value }
+    ensures kept { result ≢ ok → made.new ≡ made.old }
+{
+    let config = AnswerConfig {
+        any_order,
+        rules: AnswerRules::Webrtc,
+    };
+    answered(alloc, config, offered, ours, made)
 }
 
 /// Frees format parameters.

@@ -59,8 +59,8 @@ pub struct Refusal {
 }
 
 /// The code of a refusal of a packet, and its numbers.
-pub fn code_of(error: PacketError, why: &mut Refusal) -> u32
-    ensures { outcome_of result why.new.first why.new.second ≡ Some (Err error) }
+pub fn code_and_numbers(error: PacketError) -> (u32, Refusal)
+    ensures { outcome_of result.0 result.1.first result.1.second ≡ Some (Err error) }
 {
     let (code, first, second) = match error {
         PacketError::ErrShortPacket => (SHORT_PACKET, 0, 0),
@@ -72,7 +72,15 @@ pub fn code_of(error: PacketError, why: &mut Refusal) -> u32
         PacketError::AvcUnitTooLong => (7, 0, 0),
         PacketError::OutOfMemory => (OUT_OF_MEMORY, 0, 0),
     };
-    *why = Refusal { first, second };
+    (code, Refusal { first, second })
+}
+
+/// The same, with the numbers at a place.
+pub fn code_of(error: PacketError, why: &mut Refusal) -> u32
+    ensures { outcome_of result why.new.first why.new.second ≡ Some (Err error) }
+{
+    let (code, numbers) = code_and_numbers(error);
+    *why = numbers;
     code
 }
 

@@ -1,5 +1,6 @@
 -- What an endpoint is in the words of the payload formats: a packetizer with its packets, or a
--- depacketizer or a receiver with what it wrote, or a receiver of access units.
+-- depacketizer or a receiver with what it wrote, or a receiver of access units, of packets or of
+-- datagrams.
 use Rattle.std.specs.Prelude.{ℕ, Bool, true, false, List, [], Option, Some, None}
 use Rattle.h26x_model.specs.Send.PacketizerState.{PacketizerState}
 use Rattle.h26x_model.specs.Receive.DepacketizerState.{DepacketizerState, Depacketization, depacketization}
@@ -17,6 +18,8 @@ use Rattle.h26x_packetizer.specs.declared.refusal.RefusedUnit.{RefusedUnit}
 use Rattle.h26x_handles.specs.States.{sending_units, sending_every_packets, sending_refusal, told_depacketizer_state, after_told_packet, headers_asked, receiver_at_work, after_receiver_packet, receiver_after_skip, receiver_run_len, fresh_receiver}
 use Rattle.h26x_handles.specs.UnitsState.{UnitsState, units_deadline, units_missing}
 use Rattle.h26x_handles.specs.AccessUnits.{units_state_of}
+use Rattle.h26x_handles.specs.RtpState.{RtpState, rtp_deadline}
+use Rattle.h26x_handles.specs.RtpReceivers.{rtp_state_of}
 use Rattle.h265_packets.specs.declared.payload.H265Payload.{H265Payload}
 use Rattle.h26x_handles.specs.Shown.{Part, any_depacketizer_parts}
 
@@ -117,6 +120,7 @@ endpoint_codec (e.Sending it) = any_packetizer_codec it.packetizer
 endpoint_codec (e.Receiving it) = any_depacketizer_codec it.depacketizer
 endpoint_codec (e.Sequenced it) = any_depacketizer_codec it.depacketizer
 endpoint_codec (e.AccessUnits it) = it.codec
+endpoint_codec (e.RtpReceiver it) = it.codec
 endpoint_codec (e.Sdp it) = sdp_codec it
 
 abbrev pub is_sending : Endpoint → Bool
@@ -243,6 +247,26 @@ endpoint_missing it = []
 abbrev pub place_units : Option Endpoint → Option UnitsState
 place_units None = None
 place_units (Some it) = endpoint_units it
+
+-- whether it takes datagrams and gives out access units
+abbrev pub is_rtp_receiver : Endpoint → Bool
+is_rtp_receiver (e.RtpReceiver it) = true
+is_rtp_receiver it = false
+
+-- what it is then to contracts
+abbrev pub endpoint_rtp : Endpoint → Option RtpState
+endpoint_rtp (e.RtpReceiver it) = Some (rtp_state_of it)
+endpoint_rtp it = None
+
+-- when it is to be asked again at the latest, if packets wait
+abbrev pub endpoint_rtp_deadline : Endpoint → Option ℕ
+endpoint_rtp_deadline (e.RtpReceiver it) = rtp_deadline (rtp_state_of it)
+endpoint_rtp_deadline it = None
+
+-- what stands in a place into which an endpoint was put or not
+abbrev pub place_rtp : Option Endpoint → Option RtpState
+place_rtp None = None
+place_rtp (Some it) = endpoint_rtp it
 
 -- whether it is a depacketizer or a receiver of packets, whose packets can be shown
 abbrev pub shows_packets : Endpoint → Bool

@@ -2,6 +2,7 @@
 
 use h26x_handles::access_units::AccessUnitEndpoint;
 use h26x_handles::receiving::ReceivingEndpoint;
+use h26x_handles::rtp_receiver::RtpReceiverEndpoint;
 use h26x_handles::sending::SendingEndpoint;
 use h26x_handles::sequenced::SequencedEndpoint;
 use h26x_sdp_handles::sdp::SdpEndpoint;
@@ -17,6 +18,8 @@ pub enum Endpoint {
     Sequenced(SequencedEndpoint),
     /// It receives access units, of packets as a network brings them.
     AccessUnits(AccessUnitEndpoint),
+    /// It receives access units, of datagrams as a socket brings them.
+    RtpReceiver(RtpReceiverEndpoint),
     /// Format parameters of SDP.
     Sdp(SdpEndpoint),
 }

@@ -2,5 +2,9 @@ pub mod AccessUnitLemmas
 pub mod HeaderLemmas
 pub mod MemoryLemmas
 pub mod NumberLemmas
+pub mod PayloadLemmas
+pub mod PushAllLemmas
+pub mod ReceiveAllLemmas
+pub mod RtpUnitLemmas
 pub mod SkipLemmas
 pub mod UnitCaseLemmas

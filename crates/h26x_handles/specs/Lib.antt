@@ -2,7 +2,13 @@ pub mod Headers
 pub mod Settings
 pub mod Endpoint
 pub mod States
+pub mod Completed
 pub mod Shown
 pub mod PlacementAnswer
 pub mod UnitsState
 pub mod AccessUnits
+pub mod RtpState
+pub mod RtpReceivers
+pub mod Payloads
+pub mod PushAll
+pub mod ReceiveAll

@@ -89,7 +89,7 @@ pub fn code_of_next(answer: NextAnswer, told: &mut UnitTold) -> u32
 }
 
 /// What is told of an access unit.
-fn told_of(unit: &ReceivedAccessUnit) -> UnitTold
+pub(crate) fn told_of(unit: &ReceivedAccessUnit) -> UnitTold
     ensures { result ≡ unit_told (received_unit_value unit.now) }
 {
     UnitTold {

@@ -11,8 +11,14 @@ ghost use Rattle.h26x_access_units.specs.ReceivedAccessUnit.{ReceivedAccessUnitV
 ghost use Rattle.h26x_access_units.specs.Reception.{Reception, IsNext, after_reception, without_bare, ended_if_anew};
 ghost use Rattle.h26x_access_units.specs.declared.pushed.Pushed.TheVariants as pushes;
 ghost use Rattle.h26x_reorder.specs.Rtp.{RtpBody};
+ghost use Rattle.h26x_rtp.specs.declared.error.RtpError.TheVariants as reading;
+ghost use Rattle.h26x_rtp_receiver.specs.RtpReception.{RtpReception, IsRtpNext};
+ghost use Rattle.h26x_rtp_receiver.specs.declared.payload_types.RtpPayloadTypes.{RtpPayloadTypes};
+ghost use Rattle.h26x_rtp_receiver.specs.declared.pushed.RtpPushed.TheVariants.{Rtcp};
+ghost use Rattle.h26x_rtp_receiver.specs.declared.pushed.RtpPushError.TheVariants as refusals;
 ghost use Rattle.h26x_codes.specs.Codes.{ok, no_room, out_of_memory, out_of_range, unknown_codec, not_of_this_codec};
 ghost use Rattle.h26x_handles.specs.PlacementAnswer.{AreCounted, IsPlacementAnswer};
+ghost use Rattle.h26x_handles.specs.RtpState.{RtpState, rtp_state, fresh_rtp_state, IsDatagramPushed, IsRtpNextGiven, IsRtpUnitGiven, IsRtpOutOfMemory};
 ghost use Rattle.h26x_handles.specs.UnitsState.{UnitsState, units_state, units_codec_or_code, fresh_access_units, units_with_reception, units_push_answer, unit_told, IsUnitsPushed, IsNextGiven, IsUnitGiven, IsOutOfMemory};
 ghost use Rattle.h26x_handles.specs.declared.access_units.NextAnswer.TheVariants as answers;
 ghost use Rattle.h26x_handles.specs.declared.access_units.UnitTold.{UnitTold};
@@ -136,3 +142,50 @@ pub fn next_behind_a_packet()
 {
     units_laws::packets_taken_at_once_are_as_those_that_wait();
 }
+
+/// Datagrams that change nothing: RTCP, and one that is no RTP packet.
+pub fn datagrams_passed_over()
+    ensures rtcp { (now arrival : ℕ) (codec : Codec) (r : RtpReception) →
+        IsDatagramPushed now arrival (0x80 ∷ 200 ∷ []) (rtp_state codec r None) (Ok Rtcp)
+        (rtp_state codec r None) }
+    ensures short { (now arrival : ℕ) (codec : Codec) (r : RtpReception) →
+        IsDatagramPushed now arrival (0x80 ∷ []) (rtp_state codec r None)
+        (Err (refusals.Rtp reading.TooShort)) (rtp_state codec r None) }
+{}
+
+/// The next access unit of a receiver of datagrams: one of two bytes, which had no room before, in two
+/// bytes and in one; none of a receiver before any datagram; and else what it gives out.
+pub fn units_of_datagrams_given()
+    ensures fits { (now : ℕ) (codec : Codec) (r : RtpReception) (other : ReceivedAccessUnitValue) →
+        let unit = record other { bytes = 1 ∷ 2 ∷ [] } in
+        IsRtpUnitGiven now (rtp_state codec r (Some unit)) (rtp_state codec r None)
+        (9 ∷ 9 ∷ []) (1 ∷ 2 ∷ []) (answers.Written (unit_told unit)) }
+    ensures no_room { (now : ℕ) (codec : Codec) (r : RtpReception)
+        (other : ReceivedAccessUnitValue) →
+        let unit = record other { bytes = 1 ∷ 2 ∷ [] } in
+        IsRtpUnitGiven now (rtp_state codec r (Some unit)) (rtp_state codec r (Some unit))
+        (9 ∷ []) (9 ∷ []) (answers.NoRoom (unit_told unit)) }
+    ensures none { (now : ℕ) (codec : Codec) (has_donl is_avc : Bool) (types : RtpPayloadTypes)
+        (config : AccessUnitConfig) →
+        let it = fresh_rtp_state codec has_donl is_avc types config in
+        IsRtpUnitGiven now it it (9 ∷ []) (9 ∷ []) answers.NothingYet }
+    ensures kept { (now : ℕ) (codec : Codec) (r new : RtpReception)
+        (unit kept : ReceivedAccessUnitValue) → IsRtpNextGiven now (rtp_state codec r (Some kept))
+        new (Some unit) → (unit ≡ kept) × (new ≡ r) }
+    ensures received { (now : ℕ) (codec : Codec) (r new : RtpReception)
+        (unit : ReceivedAccessUnitValue) → IsRtpNextGiven now (rtp_state codec r None) new
+        (Some unit) → IsRtpNext now r (Some unit) new }
+{}
+
+/// Want of memory of such a receiver: no access unit waits for room, and nothing changed but what its
+/// receiver of access units took.
+pub fn datagrams_without_memory()
+    ensures none { (now : ℕ) (it new : RtpState) → IsRtpOutOfMemory now it new → it.left ≡ None }
+    ensures stays { (now : ℕ) (it new : RtpState) → IsRtpOutOfMemory now it new →
+        (new.codec ≡ it.codec) × (new.left ≡ None)
+        × (new.reception.sources ≡ it.reception.sources)
+        × (new.reception.keyframes ≡ it.reception.keyframes) }
+    ensures kept { (now : ℕ) (codec : Codec) (r : RtpReception) →
+        IsRtpOutOfMemory now (rtp_state codec r None)
+        (rtp_state codec (record r { reception = without_bare r.reception }) None) }
+{}

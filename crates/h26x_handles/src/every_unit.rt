@@ -1,6 +1,6 @@
 //! Packets of the units of an access unit, where every unit goes.
 
-ghost use Rattle.std.specs.Prelude.{◌≡◌, ◌⊎◌, false, Some, None, Err, IfOk, OnOk, OnErr};
+ghost use Rattle.std.specs.Prelude.{◌≡◌, ◌++◌, ◌⊎◌, false, Some, None, Err, IfOk, OnOk, OnErr};
 ghost use Rattle.h26x_packetizer.specs.EveryView.{after_units};
 ghost use Rattle.h26x_packetizer.specs.Group.{lent_units};
 ghost use Rattle.h26x_packetizer.specs.Placement.{IsPlacement, IsSizeOf, is_placed};
@@ -8,22 +8,24 @@ ghost use Rattle.h26x_codec.specs.AnyPacketizer.{any_packetizer_codec, IsBehindP
 ghost use Rattle.h26x_handles.specs.States.{sending_state, sending_units, sending_every_packets, sending_refused, sending_refusal};
 
 use crate::sending::SendingEndpoint;
-use h26x_codec::{refused_among_all, sent_units};
+use crate::unit_list::{UnitList, list_sent};
+use h26x_codec::refused_among_all;
 use h26x_packetizer::{EveryUnitError, PacketsSize, Placement, RefusedUnit};
 use std::alloc::{AllocError, Global};
 use std::mem;
 
 impl SendingEndpoint {
-    /// The units of an access unit in Annex B form that are sent, as slices of it.
-    fn sent_units<'a>(
+    /// Appends the units of an access unit in Annex B form that are sent to a list, as slices of it.
+    #[inline(always)]
+    fn list_sent<'a>(
         &self,
-        alloc: Global,
         access_unit: &'a [u8],
-    ) -> Result<Vec<&'a [u8]>, AllocError>
-        ensures { IfOk result (λ it. lent_units it.items ≡ sending_units self.now access_unit.now) }
+        list: &mut UnitList<'a>,
+    ) -> Result<(), AllocError>
+        ensures { OnOk result (list.new ≡ list.old ++ sending_units self.now access_unit.now) }
     {
         let codec = self.packetizer.codec();
-        sent_units(alloc, codec, self.settings.delimiters, access_unit)
+        list_sent(codec, self.settings.delimiters, access_unit, list)
     }
 
     /// An error of sending them, a refused unit by its place among all units of the access unit.
@@ -66,12 +68,13 @@ impl SendingEndpoint {
         ensures memory { sending_refusal self.old mtu access_unit.now ≡ None →
             OnErr result (result ≡ Err EveryUnitError.OutOfMemory) }
     {
-        let units = self.sent_units(alloc, access_unit)?;
+        let mut list = UnitList::new(alloc, access_unit);
+        self.list_sent(access_unit, &mut list)?;
         let packing = self.settings.packing;
         self.spare.clear();
         match self
             .packetizer
-            .packetize_units_into(packing, mtu, &units, &mut self.spare)
+            .packetize_units_into(packing, mtu, list.as_slice(), &mut self.spare)
         {
             Ok(()) => {
                 mem::swap(&mut self.packets, &mut self.spare);
@@ -98,9 +101,13 @@ impl SendingEndpoint {
         ensures memory { sending_refusal self.now mtu access_unit.now ≡ None →
             OnErr result (result ≡ Err EveryUnitError.OutOfMemory) }
     {
-        let units = self.sent_units(alloc, access_unit)?;
+        let mut list = UnitList::new(alloc, access_unit);
+        self.list_sent(access_unit, &mut list)?;
         let packing = self.settings.packing;
-        match self.packetizer.units_size(packing, mtu, &units, headroom) {
+        match self
+            .packetizer
+            .units_size(packing, mtu, list.as_slice(), headroom)
+        {
             Ok(size) => Ok(size),
             Err(error) => Err(self.refused_among_all(alloc, access_unit, error)),
         }
@@ -136,11 +143,12 @@ impl SendingEndpoint {
         ensures memory { sending_refusal self.old mtu access_unit.now ≡ None →
             OnErr result (result ≡ Err EveryUnitError.OutOfMemory) }
     {
-        let units = self.sent_units(alloc, access_unit)?;
+        let mut list = UnitList::new(alloc, access_unit);
+        self.list_sent(access_unit, &mut list)?;
         let packing = self.settings.packing;
         let made = self
             .packetizer
-            .packetize_units_to_memory(packing, mtu, &units, headroom, to, ends);
+            .packetize_units_to_memory(packing, mtu, list.as_slice(), headroom, to, ends);
         match made {
             Ok(placement) => Ok(placement),
             Err(error) => Err(self.refused_among_all(alloc, access_unit, error)),

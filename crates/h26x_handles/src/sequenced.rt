@@ -6,6 +6,7 @@ ghost use Rattle.h26x_codec.specs.AnyDepacketizer.{any_depacketizer_state, any_d
 ghost use Rattle.h26x_receiver.specs.Sequenced.{IsSequencedAnswer, is_taken, skip_answer};
 ghost use Rattle.h26x_codes.specs.Copies.{AreHandedOver};
 ghost use Rattle.h26x_handles.specs.States.{receiver_at_work, after_receiver_packet, receiver_run_len, receiver_after_skip, fresh_receiver, IsShowing};
+ghost use Rattle.h26x_handles.specs.Completed.{received_of, len_of};
 
 use h26x_codec::{AnyDepacketizer, Codec};
 use h26x_codes::copy::put_or_keep;
@@ -14,6 +15,13 @@ use h26x_depacketizer::{MemorySink, RunDepacketizer};
 use h26x_receiver::{Received, SequencedDepacketizer};
 use std::alloc::Global;
 use std::marker::Model;
+
+/// What became of a packet that wasn't refused, and how many bytes it completed.
+#[derive(Clone, Copy)]
+pub struct Completed {
+    pub received: Received,
+    pub len: usize,
+}
 
 /// A receiver of a codec's packets with their sequence numbers, and what the last packet that was
 /// taken completed and had no room for.
@@ -104,14 +112,55 @@ impl SequencedEndpoint {
         ensures kept_written { is_taken result ≡ false → written.new ≡ written.old }
         ensures kept_extra { is_taken result ≡ false → extra.new ≡ extra.old }
     {
+        let completed = self.receive_counted(sequence, packet, to, extra)?;
+        if completed.received.is_taken() {
+            *written = completed.len;
+        }
+        Ok(completed.received)
+    }
+
+    /// The same, where the answer tells how many bytes are completed: none by a packet that isn't
+    /// taken.
+    pub fn receive_counted(
+        &mut self,
+        sequence: u16,
+        packet: &[u8],
+        to: &mut [u8],
+        extra: &mut CodecExtra,
+    ) -> Result<Completed, PacketError>
+        ensures answer { IsSequencedAnswer self.old.run_limit (receiver_at_work self.old extra.old)
+            sequence packet.now (received_of result) }
+
+        // What stands after a packet that was taken.
+        ensures run { is_taken (received_of result) ≡ true →
+            any_depacketizer_state self.new.depacketizer
+            ≡ (after_receiver_packet self.old extra.old sequence packet.now).at_work.state }
+        ensures next { is_taken (received_of result) ≡ true → self.new.expected
+            ≡ (after_receiver_packet self.old extra.old sequence packet.now).expected }
+        ensures told { is_taken (received_of result) ≡ true → extra.new
+            ≡ (after_receiver_packet self.old extra.old sequence packet.now).at_work.extra }
+        ensures rest { is_taken (received_of result) ≡ true →
+            IsShowing packet.now self.old.depacketizer self.new.depacketizer }
+        ensures given { is_taken (received_of result) ≡ true → AreHandedOver
+            (after_receiver_packet self.old extra.old sequence packet.now).at_work.out
+            to.old to.new (len_of result) self.new.written }
+        ensures limit { self.new.run_limit ≡ self.old.run_limit }
+        ensures bounded { receiver_run_len self.old ≤ self.old.run_limit →
+            receiver_run_len self.new ≤ self.old.run_limit }
+
+        ensures kept { is_taken (received_of result) ≡ false → self.new ≡ self.old }
+        ensures kept_to { is_taken (received_of result) ≡ false → to.new ≡ to.old }
+        ensures none { is_taken (received_of result) ≡ false → len_of result ≡ 0 }
+        ensures kept_extra { is_taken (received_of result) ≡ false → extra.new ≡ extra.old }
+    {
         let mut memory = MemorySink::new(to);
         match self.receiver.receive(sequence, packet, &mut memory, extra) {
             Ok(received) => {
+                let len = memory.len();
                 if received.is_taken() {
-                    *written = memory.len();
                     self.written.clear();
                 }
-                return Ok(received);
+                return Ok(Completed { received, len });
             }
             Err(PacketError::OutOfMemory) if memory.lacks_room() => {}
             Err(error) => return Err(error),
@@ -121,8 +170,8 @@ impl SequencedEndpoint {
             .receiver
             .receive(sequence, packet, &mut self.spare, extra)?;
         // It is taken: one that is late is answered at once, and memory lacks for none.
-        *written = put_or_keep(&mut self.spare, to, &mut self.written);
-        Ok(received)
+        let len = put_or_keep(&mut self.spare, to, &mut self.written);
+        Ok(Completed { received, len })
     }
 
     /// Passes over a number that came and bears nothing of the stream: it isn't missing.

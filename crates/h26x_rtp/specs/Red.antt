@@ -1,4 +1,4 @@
--- Redundant payloads (RFC 2198, 3), which also bear FEC (RFC 5109, 14.1).
+-- Redundant payloads (RFC 2198, 3), which also bear FEC (RFC 5109, 14.2).
 use Rattle.std.specs.Prelude.{◌≡◌, ℕ, ◌+◌, ◌*◌, ◌/◌, ◌%◌, ◌<◌, nat_lt, if◌then◌else◌, List, [], ◌∷◌, ◌++◌, length, take, drop, slice_index, Option, Some, None, Result, Ok, Err}
 use Rattle.std.specs.Option.{option_map}
 use Rattle.std.specs.List.{flat_map, AllByRecursion}

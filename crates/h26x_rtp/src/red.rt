@@ -1,4 +1,4 @@
-//! Redundant payloads (RFC 2198), which also bear FEC (RFC 5109, 14.1).
+//! Redundant payloads (RFC 2198), which also bear FEC (RFC 5109, 14.2).
 
 ghost use Rattle.std.specs.Prelude.{◌≡◌, ◌<◌, ◌≤◌, ◌+◌, ◌*◌, ◌/◌, ◌%◌, ◌∷◌, ◌↔◌, IsTrue, IfOk, IfSome, MatchOption, [], Contains, length, drop};
 ghost use Rattle.h26x_rtp.specs.Red as spec;
@@ -29,7 +29,7 @@ pub enum RedError {
 #[derive(Debug, Clone, Copy, PartialEq, Eq)]
 pub struct RedBlock<'a> {
     /// Its payload type: by that of FEC the caller knows that it bears no payload of the stream (RFC
-    /// 5109, 14.1).
+    /// 5109, 14.2).
     pub payload_type: u8,
     /// How much earlier than the packet's its timestamp is, below 16384.
     pub timestamp_offset: u16,

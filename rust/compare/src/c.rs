@@ -384,6 +384,14 @@ impl End {
         })
         .ok()
     }
+
+    /// The same as WebRTC's peers do it, of units in decoding order.
+    pub fn answer_webrtc(&self, ours: &End) -> Option<End> {
+        made(self.free, |raw| unsafe {
+            h26x_sdp_answer_webrtc(&self.raw, &ours.raw, false, raw)
+        })
+        .ok()
+    }
 }
 
 // SAFETY, of each: the pointer and the length are those of one slice.

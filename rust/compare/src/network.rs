@@ -9,7 +9,8 @@ use crate::making::Making;
 use crate::runs::beside;
 use emupedestal::access_unit_receiver::{AccessUnitConfig, AccessUnitReceiver, Pushed};
 use emupedestal::sdp::{
-    CodecParameters, H264Parameters, H265Parameters, H266Parameters, Parameter, ParametersError,
+    AnswerConfig, AnswerRules, CodecParameters, H264Parameters, H265Parameters, H266Parameters,
+    Parameter, ParametersError,
 };
 use emupedestal::{Codec, PacketError, RtpPacket};
 
@@ -221,7 +222,15 @@ fn answers<P: Parameter>(codec: Codec, texts: &[String; 2], ours: &mut Log, thei
     }
     if let [Ok(offered), Ok(own)] = &read {
         let by = std::slice::from_ref(own);
-        let answers = [offered.answer(by), offered.answer_any_order(by)];
+        let webrtc = AnswerConfig {
+            rules: AnswerRules::Webrtc,
+            ..AnswerConfig::default()
+        };
+        let answers = [
+            offered.answer(by),
+            offered.answer_any_order(by),
+            offered.answer_with(webrtc, by),
+        ];
         for answer in answers {
             ours.say("answer", answer.expect("memory").map(|it| it.to_string()));
         }
@@ -232,7 +241,11 @@ fn answers<P: Parameter>(codec: Codec, texts: &[String; 2], ours: &mut Log, thei
             theirs.say("format", it.as_ref().map(c::End::text).map_err(|it| *it));
         }
         if let [Ok(offered), Ok(own)] = &read {
-            for answer in [offered.answer(own), offered.answer_any_order(own)] {
+            for answer in [
+                offered.answer(own),
+                offered.answer_any_order(own),
+                offered.answer_webrtc(own),
+            ] {
                 theirs.say("answer", answer.map(|it| it.text()));
             }
         }

@@ -3,7 +3,8 @@
 //!
 //! A packetizer cuts encoded video into RTP payloads within a limit, and a depacketizer puts the
 //! units together again, whatever packets a stranger sends. The traits and types are those of str0m's
-//! payload layer. RTP's header, retransmissions (RTX) and redundant payloads (RED) are read and written by [`rtp`].
+//! payload layer. RTP's header, retransmissions (RTX) and redundant payloads (RED) are read and written by [`rtp`]. An
+//! [`RtpSender`](rtp_sender::RtpSender) and an [`RtpReceiver`](rtp_receiver::RtpReceiver) stand over it.
 //!
 //! ```
 //! use emupedestal::{CodecExtra, Depacketizer, H264Depacketizer, H264Packetizer, Packing};
@@ -138,6 +139,7 @@ mod profile;
 mod proved;
 pub mod rtp;
 pub mod rtp_receiver;
+pub mod rtp_sender;
 #[cfg(feature = "sdp")]
 pub mod sdp;
 mod sequenced;

@@ -21,6 +21,7 @@ pub mod h26x_receiver;
 pub mod h26x_reorder;
 pub mod h26x_rtp;
 pub mod h26x_rtp_receiver;
+pub mod h26x_rtp_sender;
 #[cfg(feature = "sdp")]
 pub mod h26x_sdp;
 #[cfg(feature = "sdp")]

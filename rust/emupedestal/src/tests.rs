@@ -24,6 +24,7 @@ mod quiet;
 mod refusals;
 mod rtp;
 mod rtp_receiver;
+mod rtp_sender;
 #[cfg(feature = "sdp")]
 mod sdp;
 #[cfg(feature = "sdp")]

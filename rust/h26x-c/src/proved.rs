@@ -21,6 +21,7 @@ mod shared {
     pub mod h26x_receiver;
     pub mod h26x_reorder;
     pub mod h26x_rtp;
+    pub mod h26x_rtp_receiver;
     pub mod h26x_sdp;
     pub mod h26x_stream_parameters;
     pub mod h26x_transmission;

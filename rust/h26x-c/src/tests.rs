@@ -243,6 +243,39 @@ fn structs_of_the_header() {
 }
 
 #[test]
+fn structs_of_many_packets() {
+    let word = size_of::<usize>();
+    let payload = [
+        offset_of!(RtpPayload, begin),
+        offset_of!(RtpPayload, end),
+        offset_of!(RtpPayload, timestamp),
+        offset_of!(RtpPayload, sequence),
+        offset_of!(RtpPayload, marker),
+        size_of::<RtpPayload>(),
+    ];
+    let first = 2 * word;
+    assert_eq!(payload, [0, word, first, first + 4, first + 6, first + 8]);
+    let told = [
+        offset_of!(PushTold, pushed),
+        offset_of!(PushTold, behind),
+        size_of::<PushTold>(),
+    ];
+    assert_eq!(told, [0, 4, 8]);
+    let fields = [
+        offset_of!(ReceivedTold, written),
+        offset_of!(ReceivedTold, why),
+        offset_of!(ReceivedTold, code),
+        offset_of!(ReceivedTold, received),
+        offset_of!(ReceivedTold, count),
+        offset_of!(ReceivedTold, extra),
+    ];
+    let first = 3 * word;
+    assert_eq!(fields, [0, word, first, first + 4, first + 8, first + 10]);
+    let end = (first + 11).next_multiple_of(word);
+    assert_eq!(size_of::<ReceivedTold>(), end);
+}
+
+#[test]
 fn structs_of_datagrams() {
     let word = size_of::<usize>();
     let fields = [

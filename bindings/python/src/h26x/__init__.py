@@ -2,9 +2,9 @@
 
 A Packetizer cuts encoded video into RTP payloads within a limit. A Depacketizer puts the units
 together again, a Receiver does where packets come with their sequence numbers and some may be missing,
-and an AccessUnitReceiver gives out access units of packets that come in any order. RTP's own header, RTX
-and some of RTCP are read and written, and RED is read (RtpDatagram, RtpHeader). FormatParameters are those of SDP, read and
-answered.
+and an AccessUnitReceiver gives out access units of packets that come in any order; an RtpReceiver does of whole
+datagrams. RTP's own header, RTX and some of RTCP are read and written, and RED is read (RtpDatagram, RtpHeader).
+FormatParameters are those of SDP, read and answered.
 
 >>> frame = bytes.fromhex("00000001 6742c01f 00000001 68ce 00000001 658884")  # SPS, PPS, IDR slice
 >>> with Packetizer(Codec.H264) as packetizer:
@@ -152,6 +152,7 @@ from .rtcp import (
     rtcp_packets,
 )
 from .rtp import RtpDatagram, RtpHeader, is_rtcp, red_primary, write_rtx
+from .rtp_receiver import NoMedia, RtpBecame, RtpPayloadTypes, RtpReceiver, RtpSources, RtpTold
 from .sdp import (
     CapabilityPoint,
     Constraints,
@@ -217,6 +218,7 @@ __all__ = [
     "LevelSetsError",
     "NackTimes",
     "NaluTypeNotHandled",
+    "NoMedia",
     "NoRoom",
     "NotOfThisCodec",
     "NothingYet",
@@ -238,6 +240,7 @@ __all__ = [
     "RedError",
     "RedHeadersPastTheEnd",
     "ReportBlock",
+    "RtpBecame",
     "RtpCsrcs",
     "RtpCsrcsPastTheEnd",
     "RtpDatagram",
@@ -253,7 +256,11 @@ __all__ = [
     "RtpPaddingOfZero",
     "RtpPaddingTooLong",
     "RtpPayloadType",
+    "RtpPayloadTypes",
+    "RtpReceiver",
+    "RtpSources",
     "RtpStatistics",
+    "RtpTold",
     "RtpTooShort",
     "RtpWriteError",
     "RtxNoOriginal",

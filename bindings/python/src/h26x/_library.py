@@ -146,6 +146,37 @@ class PointNumbers(Structure):
     ]
 
 
+class RtpPayload(Structure):
+    """A packet whose payload lies in a buffer with others."""
+
+    _fields_ = [
+        ("begin", c_size_t),
+        ("end", c_size_t),
+        ("timestamp", c_uint32),
+        ("sequence", c_uint16),
+        ("marker", c_bool),
+    ]
+
+
+class PushTold(Structure):
+    """What became of a packet that was pushed."""
+
+    _fields_ = [("pushed", c_uint32), ("behind", c_uint16)]
+
+
+class ReceiveTold(Structure):
+    """What became of a packet with its sequence number."""
+
+    _fields_ = [
+        ("written", c_size_t),
+        ("why", Refusal),
+        ("code", c_uint32),
+        ("received", c_uint32),
+        ("count", c_uint16),
+        ("extra", c_uint8),
+    ]
+
+
 class RtpFields(Structure):
     """What the header of an RTP packet says in numbers."""
 
@@ -207,6 +238,48 @@ class StatisticsKept(Structure):
     ]
 
 
+class PayloadTypesGiven(Structure):
+    """The payload types of one stream."""
+
+    _fields_ = [
+        ("media", c_uint8),
+        ("rtx", c_uint8),
+        ("red", c_uint8),
+        ("rtx_of_red", c_uint8),
+        ("fec", c_uint8),
+        ("has_rtx", c_bool),
+        ("has_red", c_bool),
+        ("has_rtx_of_red", c_bool),
+        ("has_fec", c_bool),
+    ]
+
+
+class SourcesGiven(Structure):
+    """The sources of one stream."""
+
+    _fields_ = [
+        ("media", c_uint32),
+        ("rtx", c_uint32),
+        ("has_media", c_bool),
+        ("has_rtx", c_bool),
+    ]
+
+
+class DatagramTold(Structure):
+    """What became of a datagram."""
+
+    _fields_ = [
+        ("became", c_uint32),
+        ("ssrc", c_uint32),
+        ("no_media", c_uint32),
+        ("pushed", c_uint32),
+        ("behind", c_uint16),
+        ("sequence", c_uint16),
+        ("payload_type", c_uint8),
+        ("is_recovered", c_bool),
+    ]
+
+
 _HANDLE = POINTER(Handle)
 _SIZE = POINTER(c_size_t)
 _BYTE = POINTER(c_uint8)
@@ -224,6 +297,9 @@ _FIELDS = POINTER(RtpFields)
 _PLACES = POINTER(RtpPlaces)
 _REPORT = POINTER(ReportGiven)
 _STATISTICS = POINTER(StatisticsKept)
+_TYPES = POINTER(PayloadTypesGiven)
+_SOURCES = POINTER(SourcesGiven)
+_DATAGRAM = POINTER(DatagramTold)
 # Bytes that a call reads are a `bytes` object, which nobody changes meanwhile. Those that it writes
 # are an address.
 _IN = (c_char_p, c_size_t)
@@ -285,6 +361,7 @@ CALLS: Dict[str, Tuple[Any, List[Any]]] = {
         c_uint32,
         [_HANDLE, c_uint16, *_IN, *_OUT, _SIZE, _BYTE, _WORD, _SHORT, _WHY],
     ),
+    "receive_all": (c_uint32, [_HANDLE, *_IN, *_IN, *_OUT, *_OUT, _SIZE, _SIZE]),
     "receiver_skip": (c_uint32, [_HANDLE, c_uint16, _WORD, _SHORT]),
     "receiver_restart": _DO,
     "receiver_run_len": (c_size_t, [_HANDLE]),
@@ -296,6 +373,7 @@ CALLS: Dict[str, Tuple[Any, List[Any]]] = {
         [_HANDLE, c_uint32, c_uint16, c_uint32, c_bool, *_IN, _WORD, _SHORT],
     ),
     "access_units_skip": (c_uint32, [_HANDLE, c_uint32, c_uint16, _WORD, _SHORT]),
+    "access_units_push_all": (c_uint32, [_HANDLE, c_uint32, *_IN, *_IN, *_OUT, _SIZE]),
     "access_units_next": (c_uint32, [_HANDLE, c_uint32, *_OUT, _UNIT]),
     "access_units_deadline": (c_bool, [_HANDLE, _WORD]),
     "access_units_missing": (c_uint32, [_HANDLE, *_OUT, _SIZE]),
@@ -338,10 +416,25 @@ CALLS: Dict[str, Tuple[Any, List[Any]]] = {
     "rtp_statistics_receive": (c_bool, [_STATISTICS, c_uint32, c_uint16, c_uint32, c_size_t]),
     "rtp_statistics_recover": (None, [_STATISTICS]),
     "rtp_statistics_report": (None, [_STATISTICS, c_uint32, c_uint32, c_uint32, _REPORT]),
+    "rtp_receiver_new": (c_uint32, [_CONFIG, _TYPES, _HANDLE]),
+    "rtp_receiver_set_config": (c_uint32, [_HANDLE, _CONFIG]),
+    "rtp_receiver_free": _FREE,
+    "rtp_receiver_follow": (c_uint32, [_HANDLE, _SOURCES]),
+    "rtp_receiver_sources": (c_uint32, [_HANDLE, _SOURCES]),
+    "rtp_receiver_push": (c_uint32, [_HANDLE, c_uint32, c_uint32, *_IN, _DATAGRAM]),
+    "rtp_receiver_next": (c_uint32, [_HANDLE, c_uint32, *_OUT, _UNIT]),
+    "rtp_receiver_deadline": (c_bool, [_HANDLE, _WORD]),
+    "rtp_receiver_nacks": (c_uint32, [_HANDLE, c_uint32, _TIMES, *_OUT, _SIZE]),
+    "rtp_receiver_keyframe_wanted": (c_bool, [_HANDLE, c_uint32, c_uint32]),
+    "rtp_receiver_statistics": (c_uint32, [_HANDLE, _STATISTICS]),
+    "rtp_receiver_report": (c_bool, [_HANDLE, c_uint32, c_uint32, _REPORT]),
+    "rtp_receiver_finish": _DO,
+    "rtp_receiver_count": (c_uint32, [_HANDLE, _COUNTS]),
     "sdp_read": (c_uint32, [c_uint32, *_IN, _HANDLE, _WHY]),
     "sdp_of_payload": (c_uint32, [c_uint32, *_IN, _HANDLE]),
     "sdp_answer": (c_uint32, [_HANDLE, _HANDLE, _HANDLE]),
     "sdp_answer_any_order": (c_uint32, [_HANDLE, _HANDLE, _HANDLE]),
+    "sdp_answer_webrtc": (c_uint32, [_HANDLE, _HANDLE, c_bool, _HANDLE]),
     "sdp_free": _FREE,
     "sdp_codec": (c_uint32, [_HANDLE]),
     "sdp_write": (c_uint32, [_HANDLE, *_OUT, _SIZE]),

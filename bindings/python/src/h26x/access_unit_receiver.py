@@ -2,13 +2,15 @@
 
 from __future__ import annotations
 
-from ctypes import byref, c_size_t, c_uint16, c_uint32
+import struct
+from ctypes import byref, c_size_t, c_uint16, c_uint32, sizeof
 from dataclasses import dataclass
 from enum import IntEnum
-from typing import Any, Iterator, List, NamedTuple, NoReturn, Optional, Tuple
+from typing import Any, Callable, Iterable, Iterator, List, NamedTuple, NoReturn, Optional, Tuple
 
 from ._handle import Owner
-from ._library import Handle, NackTimesGiven, UnitsConfig, UnitsCounts, UnitTold, library
+from ._library import Handle, NackTimesGiven, PushTold, UnitsConfig, UnitsCounts, UnitTold, library
+from ._many import laid
 from ._memory import Buffer, Room, as_bytes, number
 from .codec import Codec, codec_of
 from .depacketizer import KEYFRAME
@@ -46,6 +48,12 @@ class Pushed(IntEnum):
     ANEW = 5
     #: It is so far ahead, and no more than a window, or 100, from the one that waited alone: both wait.
     JUMPED = 6
+
+
+_PUSHED = list(Pushed)
+# What is told of a packet, laid out as a C compiler does.
+_BECAME = struct.Struct("@IH0I")
+assert _BECAME.size == sizeof(PushTold)
 
 
 class NackTimes(NamedTuple):
@@ -160,7 +168,7 @@ class Counts:
     unbelieved: int = 0
 
 
-def _settings(codec: Codec, config: AccessUnitConfig, donl: bool, avc: bool) -> UnitsConfig:
+def settings(codec: Codec, config: AccessUnitConfig, donl: bool, avc: bool) -> UnitsConfig:
     """The settings as C takes them."""
     return UnitsConfig(
         codec=codec,
@@ -178,46 +186,18 @@ def _settings(codec: Codec, config: AccessUnitConfig, donl: bool, avc: bool) -> 
     )
 
 
-class AccessUnitReceiver(Owner):
-    """Takes packets as a network brings them, some lost, some twice and in any order, and gives out
-    access units.
+class GivesUnits(Owner):
+    """What gives out access units that have ended."""
 
-    `now` is the caller's clock, in ticks of his own, which goes round at 2^32 and never goes back. Push
-    what comes; take access units until there is none; and do so again at the `deadline`.
+    #: The calls on such a handle.
+    _SET_CONFIG: Callable[..., int]
+    _NEXT: Callable[..., int]
+    _DEADLINE: Callable[..., bool]
+    _FINISH: Callable[..., int]
+    _COUNT: Callable[..., int]
 
-    One object may be used by several threads; one call at a time runs.
-
-    >>> receiver = AccessUnitReceiver(Codec.H264, AccessUnitConfig(max_wait=100, begin_wait=20))
-    >>> for packet in (  # two fragments of a unit, in the other order, and a unit of the next picture
-    ...     RtpPacket(8, 3000, True, b"|E\\x02"),
-    ...     RtpPacket(7, 3000, False, b"|\\x85\\x01"),
-    ...     RtpPacket(9, 6000, True, b"a\\x09"),
-    ... ):
-    ...     outcome, _ = receiver.push(0, packet)
-    >>> receiver.next(0)  # packets before the first may still come
-    >>> receiver.deadline()
-    20
-    >>> [(unit.timestamp, unit.data.hex(), unit.is_whole) for unit in receiver.units(20)]
-    [(3000, '00000001650102', False), (6000, '000000016109', True)]
-    """
-
-    _FREE = library.h26x_access_units_free
-
-    def __init__(
-        self,
-        codec: int,
-        config: AccessUnitConfig = AccessUnitConfig(),
-        *,
-        donl: bool = False,
-        avc: bool = False,
-    ) -> None:
-        """A receiver that takes any sequence number as the first. `donl` and `avc` are those of a
-        Depacketizer. Raises UnknownCodec, NotOfThisCodec, OutOfRange or OutOfMemory."""
-        self._codec = codec_of(codec)
-        wanted = _settings(self._codec, config, donl, avc)
-        made = Handle()
-        check(library.h26x_access_units_new(byref(wanted), byref(made)))
-        self._room, self._unit = Room(), UnitTold()
+    def _begin(self, codec: Codec, made: Handle) -> None:
+        self._codec, self._room, self._unit = codec, Room(), UnitTold()
         self._own(made)
 
     @property
@@ -228,38 +208,8 @@ class AccessUnitReceiver(Owner):
     def set_config(self, config: AccessUnitConfig) -> None:
         """Has other settings from now on, for what waits and is open too. Raises OutOfRange, which changes
         nothing."""
-        wanted = _settings(self._codec, config, False, False)
-        check(self._with_handle(library.h26x_access_units_set_config, byref(wanted)))
-
-    def push(self, now: int, packet: RtpPacket) -> Tuple[Pushed, int]:
-        """Takes a packet that came at this tick, and copies it where it waits. Answers what became of
-        it, and where it is late how far it is behind the one that is due; else 0. One without a payload
-        came and bears nothing, as `skip` has it. Then take access units until there is none.
-
-        Raises OutOfMemory, which changes nothing: the packet can be given again.
-        """
-        payload = as_bytes(packet.payload)
-        return self._push(
-            library.h26x_access_units_push,
-            _tick("now", now),
-            number("sequence", packet.sequence, 65535),
-            _tick("timestamp", packet.timestamp),
-            packet.marker,
-            payload,
-            len(payload),
-        )
-
-    def skip(self, now: int, sequence: int) -> Tuple[Pushed, int]:
-        """Passes over a number that came and bears nothing of the stream, as that of padding alone, of
-        forward error correction or of another payload type: so it isn't missing. What it answers is that
-        of `push`."""
-        given = (_tick("now", now), number("sequence", sequence, 65535))
-        return self._push(library.h26x_access_units_skip, *given)
-
-    def _push(self, call: Any, *arguments: Any) -> Tuple[Pushed, int]:
-        pushed, behind = c_uint32(), c_uint16()
-        check(self._with_handle(call, *arguments, byref(pushed), byref(behind)))
-        return Pushed(pushed.value), behind.value
+        wanted = settings(self._codec, config, False, False)
+        check(self._with_handle(type(self)._SET_CONFIG, byref(wanted)))
 
     def next(self, now: int) -> Optional[AccessUnit]:
         """The next access unit, if one has ended at this tick; else None. Call it until there is none.
@@ -268,12 +218,12 @@ class AccessUnitReceiver(Owner):
 
         Raises OutOfMemory, of which nothing is lost: the call can be made again.
         """
-        tick = _tick("now", now)
+        at = tick("now", now)
         with self._lock:
-            code = self._next(tick)
+            code = self._next(at)
             if code == NoRoom.code:
                 self._room.grow(self._unit.len)
-                code = self._next(tick)
+                code = self._next(at)
             if code == NothingYet.code:
                 return None
             check(code)
@@ -282,10 +232,7 @@ class AccessUnitReceiver(Owner):
     def _next(self, now: int) -> int:
         """Has the next access unit written, for who has the lock."""
         room, unit = self._room, byref(self._unit)
-        code: int = library.h26x_access_units_next(
-            self._live(), now, room.address, room.size, unit
-        )
-        return code
+        return type(self)._NEXT(self._live(), now, room.address, room.size, unit)
 
     def _given(self) -> AccessUnit:
         """What was written."""
@@ -312,7 +259,126 @@ class AccessUnitReceiver(Owner):
         """The tick at which to take access units at the latest, if packets wait and there is a
         `max_wait`, or for the packet that begins the stream a `begin_wait`; else None."""
         at = c_uint32()
-        return at.value if self._with_handle(library.h26x_access_units_deadline, byref(at)) else None
+        return at.value if self._with_handle(type(self)._DEADLINE, byref(at)) else None
+
+    def finish(self) -> None:
+        """At the end of a stream: all that waits is due, and once it was taken the open access unit
+        ends, not known to be whole. `units` gives all of it, and then any number is the next."""
+        check(self._with_handle(type(self)._FINISH))
+
+    def counts(self) -> Counts:
+        """What was counted."""
+        told = UnitsCounts()
+        check(self._with_handle(type(self)._COUNT, byref(told)))
+        return Counts(**{name: getattr(told, name) for name, _ in UnitsCounts._fields_})
+
+    def __copy__(self) -> NoReturn:
+        """The library has no copy of it."""
+        raise TypeError(f"a {type(self).__name__} has no copy")
+
+
+class AccessUnitReceiver(GivesUnits):
+    """Takes packets as a network brings them, some lost, some twice and in any order, and gives out
+    access units.
+
+    `now` is the caller's clock, in ticks of his own, which goes round at 2^32 and never goes back. Push
+    what comes; take access units until there is none; and do so again at the `deadline`.
+
+    One object may be used by several threads; one call at a time runs.
+
+    >>> receiver = AccessUnitReceiver(Codec.H264, AccessUnitConfig(max_wait=100, begin_wait=20))
+    >>> for packet in (  # two fragments of a unit, in the other order, and a unit of the next picture
+    ...     RtpPacket(8, 3000, True, b"|E\\x02"),
+    ...     RtpPacket(7, 3000, False, b"|\\x85\\x01"),
+    ...     RtpPacket(9, 6000, True, b"a\\x09"),
+    ... ):
+    ...     outcome, _ = receiver.push(0, packet)
+    >>> receiver.next(0)  # packets before the first may still come
+    >>> receiver.deadline()
+    20
+    >>> [(unit.timestamp, unit.data.hex(), unit.is_whole) for unit in receiver.units(20)]
+    [(3000, '00000001650102', False), (6000, '000000016109', True)]
+    """
+
+    _FREE = library.h26x_access_units_free
+    _SET_CONFIG = library.h26x_access_units_set_config
+    _NEXT = library.h26x_access_units_next
+    _DEADLINE = library.h26x_access_units_deadline
+    _FINISH = library.h26x_access_units_finish
+    _COUNT = library.h26x_access_units_count
+
+    def __init__(
+        self,
+        codec: int,
+        config: AccessUnitConfig = AccessUnitConfig(),
+        *,
+        donl: bool = False,
+        avc: bool = False,
+    ) -> None:
+        """A receiver that takes any sequence number as the first. `donl` and `avc` are those of a
+        Depacketizer. Raises UnknownCodec, NotOfThisCodec, OutOfRange or OutOfMemory."""
+        made, wanted = Handle(), settings(codec_of(codec), config, donl, avc)
+        check(library.h26x_access_units_new(byref(wanted), byref(made)))
+        self._begin(codec_of(codec), made)
+        self._told = Room()
+
+    def push(self, now: int, packet: RtpPacket) -> Tuple[Pushed, int]:
+        """Takes a packet that came at this tick, and copies it where it waits. Answers what became of
+        it, and where it is late how far it is behind the one that is due; else 0. One without a payload
+        came and bears nothing, as `skip` has it. Then take access units until there is none.
+
+        Raises OutOfMemory, which changes nothing: the packet can be given again.
+        """
+        payload = as_bytes(packet.payload)
+        return self._push(
+            library.h26x_access_units_push,
+            tick("now", now),
+            number("sequence", packet.sequence, 65535),
+            tick("timestamp", packet.timestamp),
+            packet.marker,
+            payload,
+            len(payload),
+        )
+
+    def push_all(self, now: int, packets: Iterable[RtpPacket]) -> List[Tuple[Pushed, int]]:
+        """Takes packets that came at this tick as `push` does, in their order, by one call of the library.
+        Answers what became of each, up to the first that is FULL or for which memory lacks: take access
+        units, and give that and those behind it again.
+
+        Raises OutOfMemory where memory lacks for the first, which changes nothing.
+        """
+        given = laid(packets)
+        at, count, taken = tick("now", now), len(given.begins), c_size_t()
+        with self._lock:
+            self._told.grow(count * _BECAME.size)
+            code = library.h26x_access_units_push_all(
+                self._live(),
+                at,
+                given.data,
+                len(given.data),
+                given.places,
+                count,
+                self._told.address,
+                count,
+                byref(taken),
+            )
+            told = min(taken.value + 1, count) if code == 0 else taken.value
+            if not told:
+                check(code)
+            became = _BECAME.iter_unpack(self._told.view[: told * _BECAME.size])
+            return [(_PUSHED[pushed], behind) for pushed, behind in became]
+
+    def skip(self, now: int, sequence: int) -> Tuple[Pushed, int]:
+        """Passes over a number that came and bears nothing of the stream, as that of padding alone, of
+        forward error correction or of another payload type: so it isn't missing. What it answers is that
+        of `push`."""
+        given = (tick("now", now), number("sequence", sequence, 65535))
+        return self._push(library.h26x_access_units_skip, *given)
+
+    def _push(self, call: Any, *arguments: Any) -> Tuple[Pushed, int]:
+        pushed, behind = c_uint32(), c_uint16()
+        check(self._with_handle(call, *arguments, byref(pushed), byref(behind)))
+        return Pushed(pushed.value), behind.value
 
     def missing(self) -> List[int]:
         """The numbers that are missing before packets that wait, in order: those to ask the sender for
@@ -334,17 +400,13 @@ class AccessUnitReceiver(Owner):
         missing since the first of the calls in a row that found it so: call it as often as `first` and `again`
         ask for. Raises OutOfMemory: nothing counts as asked for then."""
         count, to, call = c_size_t(), Room(), library.h26x_access_units_nacks
-        tick, wide = _tick("now", now), number("room", room, 65536)
-        wanted = NackTimesGiven(
-            number("first", times.first, _TICKS),
-            number("again", times.again, _TICKS),
-            number("most", times.most, 255),
-        )
+        at, wide = tick("now", now), number("room", room, 65536)
+        wanted = times_given(times)
         with self._lock:
             check(library.h26x_access_units_missing(self._live(), None, 0, byref(count)))
             wide = min(wide, count.value)
             to.grow(max(wide, 1) * _EACH_NUMBER)
-            check(call(self._live(), tick, byref(wanted), to.address, wide, byref(count)))
+            check(call(self._live(), at, byref(wanted), to.address, wide, byref(count)))
         return to.view[: count.value * _EACH_NUMBER].cast("H").tolist()
 
     def begin_at(self, sequence: int) -> bool:
@@ -356,31 +418,24 @@ class AccessUnitReceiver(Owner):
         check(self._with_handle(call, number("sequence", sequence, 65535), byref(in_time)))
         return in_time.value == 1
 
-    def finish(self) -> None:
-        """At the end of a stream: all that waits is due, and once it was taken the open access unit
-        ends, not known to be whole. `units` gives all of it, and then any number is the next."""
-        check(self._with_handle(library.h26x_access_units_finish))
-
     def restart(self) -> None:
         """For another sender (SSRC): drops all that waits or is open, and takes any number as the next.
         What was counted stays."""
         check(self._with_handle(library.h26x_access_units_restart))
 
-    def counts(self) -> Counts:
-        """What was counted."""
-        told = UnitsCounts()
-        check(self._with_handle(library.h26x_access_units_count, byref(told)))
-        return Counts(**{name: getattr(told, name) for name, _ in UnitsCounts._fields_})
 
-    def __copy__(self) -> NoReturn:
-        """The library has no copy of it."""
-        raise TypeError(f"a {type(self).__name__} has no copy")
+def times_given(times: NackTimes) -> NackTimesGiven:
+    """The times as C takes them. Raises ValueError."""
+    return NackTimesGiven(
+        tick("first", times.first), tick("again", times.again), number("most", times.most, 255)
+    )
 
 
-def _tick(name: str, value: int) -> int:
+def tick(name: str, value: int) -> int:
+    """A tick of the caller's clock. Raises ValueError."""
     return number(name, value, _TICKS)
 
 
 def _wait(name: str, value: Optional[int]) -> int:
     """A number of ticks; None is without an end."""
-    return _TICKS if value is None else _tick(name, value)
+    return _TICKS if value is None else tick(name, value)

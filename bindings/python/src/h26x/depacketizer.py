@@ -13,7 +13,7 @@ from .errors import check, error_of
 from .shown import ShownPacket, shown_of
 
 #: The bytes before a unit: a start code, or its length.
-_BEFORE_UNIT = 4
+BEFORE_UNIT = 4
 
 #: What the library tells of units.
 KEYFRAME = {0: None, 1: False, 2: True}
@@ -81,7 +81,7 @@ class Taking(Owner):
     def _take(self, call: Any, *arguments: Any) -> Depacketized:
         """Has a call take a packet, for who has the lock. `arguments` end with the packet."""
         *before, packet = arguments
-        self._room.grow(len(packet) + _BEFORE_UNIT)
+        self._room.grow(len(packet) + BEFORE_UNIT)
         self._extra.value = 0
         code = call(
             self._live(),

@@ -2,15 +2,17 @@
 
 from __future__ import annotations
 
-from ctypes import byref, c_uint16, c_uint32
+import struct
+from ctypes import byref, c_size_t, c_uint16, c_uint32, sizeof
 from enum import IntEnum
-from typing import Any, NamedTuple, Optional, Tuple
+from typing import Any, Iterable, List, NamedTuple, Optional, Tuple, Union
 
-from ._library import Handle, library
-from ._memory import Buffer, as_bytes, number
+from ._library import Handle, ReceiveTold, library
+from ._many import Laid, laid
+from ._memory import Buffer, Room, as_bytes, number
 from .codec import Codec, codec_of
-from .depacketizer import Taking
-from .errors import check
+from .depacketizer import BEFORE_UNIT, KEYFRAME, Taking
+from .errors import Error, NoRoom, OutOfMemory, check, error_of
 
 
 class Outcome(IntEnum):
@@ -40,6 +42,12 @@ class Received(NamedTuple):
     #: Whether a unit of a keyframe is among them; None where there is no unit. See
     #: `Depacketized.is_keyframe`.
     is_keyframe: Optional[bool]
+
+
+_OUTCOME = list(Outcome)
+# What is told of a packet, laid out as a C compiler does.
+_BECAME = struct.Struct("@NNNIIHB0N")
+assert _BECAME.size == sizeof(ReceiveTold)
 
 
 class Receiver(Taking):
@@ -82,7 +90,7 @@ class Receiver(Taking):
 
     def _begin(self, handle: Handle, codec: Codec, donl: bool, avc: bool, limit: int) -> None:
         self._run_limit = limit
-        self._outcome, self._count = c_uint32(), c_uint16()
+        self._outcome, self._count, self._told = c_uint32(), c_uint16(), Room()
         self._set_up(handle, codec, donl, avc)
 
     @property
@@ -115,6 +123,64 @@ class Receiver(Taking):
         with self._lock:
             units = self._take(library.h26x_receive, sequence, data)
             return Received(Outcome(self._outcome.value), self._count.value, *units)
+
+    def receive_all(
+        self, packets: Iterable[Tuple[int, Buffer]]
+    ) -> List[Union[Received, Error]]:
+        """Takes packets with their sequence numbers as `receive` does, in their order, by one call of the
+        library. Answers what became of each, or the error that `receive` raises of one that is refused and passed over, up
+        to the first for which memory lacks: give that and those behind it again.
+
+        Raises OutOfMemory where memory lacks for the first, which changes nothing.
+        """
+        given = laid((sequence, 0, False, packet) for sequence, packet in packets)
+        became: List[Union[Received, Error]] = []
+        with self._lock:
+            while len(became) < len(given.begins):
+                code = self._receive_behind(given, became)
+                if code == OutOfMemory.code and not became:
+                    check(code)
+                if code != NoRoom.code:
+                    return became
+        return became
+
+    def _receive_behind(self, given: Laid, became: List[Union[Received, Error]]) -> int:
+        """Has the library take those behind the first ones, and notes what became of them; its code."""
+        count, taken, written = len(given.begins) - len(became), c_size_t(), c_size_t()
+        self._room.grow(len(given.data) + count * BEFORE_UNIT)
+        self._told.grow(count * _BECAME.size)
+        code: int = library.h26x_receive_all(
+            self._live(),
+            given.data,
+            len(given.data),
+            given.behind(len(became)),
+            count,
+            self._room.address,
+            self._room.size,
+            self._told.address,
+            count,
+            byref(taken),
+            byref(written),
+        )
+        begin = 0
+        told = self._told.view[: taken.value * _BECAME.size]
+        for size, first, second, refusal, outcome, distance, extra in _BECAME.iter_unpack(told):
+            if refusal:
+                became.append(error_of(refusal, first, second))
+                continue
+            end = begin + size
+            if end > self._room.size:
+                data = self._left(size)
+            else:
+                data, begin = self._room.copy(begin, end), end
+            became.append(Received(_OUTCOME[outcome], distance, data, KEYFRAME[extra]))
+        return code
+
+    def _left(self, size: int) -> bytes:
+        """What the last packet that was taken completed, and had no room for."""
+        self._room.grow(size)
+        library.h26x_written_copy(self._live(), self._room.address, self._room.size)
+        return self._room.copy(0, size)
 
     def skip(self, sequence: int) -> Tuple[Outcome, int]:
         """Passes over a number that came and bears nothing of the stream, as that of padding alone, of

@@ -310,7 +310,7 @@ class FormatParameters(Owner):
                 most = count.value
 
     def answer(
-        self, *ours: FormatParameters, any_order: bool = False
+        self, *ours: FormatParameters, any_order: bool = False, webrtc: bool = False
     ) -> Optional[FormatParameters]:
         """The answer to these parameters of an offer, by the first of ours that gives one; None where none
         does, as where the standard has no such profile or level. One of ours that its RFC forbids, as a
@@ -321,24 +321,33 @@ class FormatParameters(Owner):
         sprop-max-don-diff above 0) are answered only with `any_order`: by an end that reads STAP-B, MTAP and
         FU-B of H.264, which a Depacketizer doesn't, and puts units in order by their decoding order numbers.
 
+        With `webrtc` they are answered as WebRTC's peers do it. H.264 without profile-level-id is 42e01f, and
+        not 42000a (libwebrtc, aiortc), so that a format without any parameter is that in packetization-mode 0;
+        who decodes Baseline or High takes an offer of its constrained profile, 42e01f or 640c1f, and answers
+        with that, which it is to send. Of H.265 interop-constraints and profile-compatibility-indicator aren't
+        compared (libwebrtc).
+
         To answer an offer, go through its formats in their order: the first that is answered gives the
         answer, with its payload type (RFC 3264, 6.1)."""
         for own in ours:
             made = Handle()
-            code = self._answer(own, made, any_order)
+            code = self._answer(own, made, any_order, webrtc)
             if code != SdpNoAnswer.code:
                 check(code)
                 return self._of(self._codec, made)
         return None
 
-    def _answer(self, ours: FormatParameters, made: Handle, any_order: bool) -> int:
+    def _answer(self, ours: FormatParameters, made: Handle, any_order: bool, webrtc: bool) -> int:
         """Has the answer made by one of ours."""
         with ExitStack() as locks:
             # In one order, so that two threads that answer by the same two don't wait for each other.
             for one in [self] if ours is self else sorted((self, ours), key=id):
                 locks.enter_context(one._lock)
-            call = library.h26x_sdp_answer_any_order if any_order else library.h26x_sdp_answer
-            code = call(self._live(), ours._live(), byref(made))
+            if webrtc:
+                code = library.h26x_sdp_answer_webrtc(self._live(), ours._live(), any_order, byref(made))
+            else:
+                call = library.h26x_sdp_answer_any_order if any_order else library.h26x_sdp_answer
+                code = call(self._live(), ours._live(), byref(made))
         return int(code)
 
     def __copy__(self) -> NoReturn:

@@ -268,6 +268,12 @@ unsafe extern "C" {
     ) -> u32;
     pub fn h26x_sdp_answer(offered: *const Raw, ours: *const Raw, made: *mut Raw) -> u32;
     pub fn h26x_sdp_answer_any_order(offered: *const Raw, ours: *const Raw, made: *mut Raw) -> u32;
+    pub fn h26x_sdp_answer_webrtc(
+        offered: *const Raw,
+        ours: *const Raw,
+        any_order: bool,
+        made: *mut Raw,
+    ) -> u32;
     pub fn h26x_sdp_free(h: Raw);
     pub fn h26x_sdp_write(h: *const Raw, to: *mut u8, room: usize, len: *mut usize) -> u32;
 }

@@ -1,4 +1,4 @@
-//! Datagrams of a stream, with RTX (RFC 4588, 4), RED (RFC 2198, 3), FEC in RED (RFC 5109, 14.1) and padding alone.
+//! Datagrams of a stream, with RTX (RFC 4588, 4), RED (RFC 2198, 3), FEC in RED (RFC 5109, 14.2) and padding alone.
 
 use crate::access_unit_receiver::Pushed;
 use crate::rtp::{RedError, RtpError};

@@ -3,8 +3,8 @@
 //! The C library. `bindings/include/h26x.h` declares its calls, and says what a caller owes.
 //!
 //! A handle is a struct of one pointer to an `Endpoint` of `h26x_endpoint`, a packetizer, a
-//! depacketizer, a receiver of packets with their sequence numbers or one of access units, of one
-//! codec. Each call states what it answers in the words of the payload formats.
+//! depacketizer, a receiver of packets with their sequence numbers or one of access units, of packets
+//! or of datagrams, of one codec. Each call states what it answers in the words of the payload formats.
 mod access_units;
 mod const_handle;
 mod copied;
@@ -15,10 +15,13 @@ mod paci;
 mod packets;
 mod place;
 mod profiles;
+mod push_all;
+mod receive_all;
 mod receiving;
 mod rtcp;
 mod rtp;
 mod rtp_map;
+mod rtp_receiver;
 mod sdp;
 mod sending;
 mod sequenced;

@@ -1,6 +1,6 @@
 // Made from crates/h26x_rtp/src/red.rt by tools/to-rust.
 
-//! Redundant payloads (RFC 2198), which also bear FEC (RFC 5109, 14.1).
+//! Redundant payloads (RFC 2198), which also bear FEC (RFC 5109, 14.2).
 
 use crate::proved::h26x_rtp::error::RtpWriteError;
 use crate::proved::h26x_rtp::memory::write_behind;
@@ -36,7 +36,7 @@ impl core::error::Error for RedError {}
 #[derive(Clone, Copy, PartialEq, Eq)]
 pub struct RedBlock<'a> {
     /// Its payload type: by that of FEC the caller knows that it bears no payload of the stream (RFC
-    /// 5109, 14.1).
+    /// 5109, 14.2).
     pub payload_type: u8,
     /// How much earlier than the packet's its timestamp is, below 16384.
     pub timestamp_offset: u16,

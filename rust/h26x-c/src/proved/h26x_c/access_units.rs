@@ -63,7 +63,7 @@ pub struct Counts {
 }
 
 /// The settings of a receiver.
-fn settings(config: &Config) -> AccessUnitConfig {
+pub fn settings(config: &Config) -> AccessUnitConfig {
     AccessUnitConfig {
         window: config.window,
         far: config.far_away,
@@ -78,7 +78,7 @@ fn settings(config: &Config) -> AccessUnitConfig {
 }
 
 /// When a receiver asks for missing numbers.
-fn nack_times(times: &NackTimes) -> crate::proved::h26x_access_units::NackTimes {
+pub fn nack_times(times: &NackTimes) -> crate::proved::h26x_access_units::NackTimes {
     crate::proved::h26x_access_units::NackTimes {
         first: times.first,
         again: times.again,
@@ -87,7 +87,7 @@ fn nack_times(times: &NackTimes) -> crate::proved::h26x_access_units::NackTimes 
 }
 
 /// What was counted, as C is told it.
-fn counts_told(counts: crate::proved::h26x_access_units::Counts) -> Counts {
+pub fn counts_told(counts: crate::proved::h26x_access_units::Counts) -> Counts {
     Counts {
         taken: counts.taken,
         lost: counts.lost,

@@ -15,10 +15,16 @@ pub use super::rtcp::Report;
 pub use super::rtcp::Statistics;
 pub use super::rtp::RtpFields;
 pub use super::rtp::RtpPlaces;
+pub use super::rtp_receiver::DatagramTold;
+pub use super::rtp_receiver::PayloadTypes;
+pub use super::rtp_receiver::Sources;
 pub use super::shown::Shown;
 use crate::pointers;
 pub use crate::proved::h26x_codes::code::Refusal;
 pub use crate::proved::h26x_handles::access_units::UnitTold;
+pub use crate::proved::h26x_handles::payloads::RtpPayload;
+pub use crate::proved::h26x_handles::push_all::PushTold;
+pub use crate::proved::h26x_handles::receive_all::ReceivedTold;
 pub use crate::proved::h26x_sdp_handles::sdp_values::ConstraintNumbers;
 pub use crate::proved::h26x_sdp_handles::sdp_values::PointNumbers;
 use core::mem::MaybeUninit;
@@ -439,6 +445,62 @@ pub extern "C" fn h26x_h265_is_known(profile_id: u8, tier_flag: u8, level_id: u8
 #[unsafe(no_mangle)]
 pub extern "C" fn h26x_h266_is_known(profile_id: u8, tier_flag: u8, level_id: u8) -> bool {
     super::profiles::h26x_h266_is_known(profile_id, tier_flag, level_id)
+}
+
+#[unsafe(no_mangle)]
+pub unsafe extern "C" fn h26x_access_units_push_all(
+    u: *mut Handle,
+    now: u32,
+    bytes: *const u8,
+    bytes_len: usize,
+    payloads: *const RtpPayload,
+    payloads_len: usize,
+    told: *mut PushTold,
+    told_room: usize,
+    taken: *mut usize,
+) -> u32 {
+    let mut no_taken = MaybeUninit::uninit();
+    // SAFETY: a caller owes what the header says.
+    unsafe {
+        super::push_all::h26x_access_units_push_all(
+            pointers::lent(u),
+            now,
+            pointers::items(bytes, bytes_len),
+            pointers::items(payloads, payloads_len),
+            pointers::room(told, told_room),
+            pointers::output(taken, &mut no_taken),
+        )
+    }
+}
+
+#[unsafe(no_mangle)]
+pub unsafe extern "C" fn h26x_receive_all(
+    r: *mut Handle,
+    bytes: *const u8,
+    bytes_len: usize,
+    payloads: *const RtpPayload,
+    payloads_len: usize,
+    to: *mut u8,
+    room: usize,
+    told: *mut ReceivedTold,
+    told_room: usize,
+    taken: *mut usize,
+    written: *mut usize,
+) -> u32 {
+    let mut no_taken = MaybeUninit::uninit();
+    let mut no_written = MaybeUninit::uninit();
+    // SAFETY: a caller owes what the header says.
+    unsafe {
+        super::receive_all::h26x_receive_all(
+            pointers::lent(r),
+            pointers::items(bytes, bytes_len),
+            pointers::items(payloads, payloads_len),
+            pointers::room(to, room),
+            pointers::room(told, told_room),
+            pointers::output(taken, &mut no_taken),
+            pointers::output(written, &mut no_written),
+        )
+    }
 }
 
 #[unsafe(no_mangle)]
@@ -953,6 +1015,208 @@ pub unsafe extern "C" fn h26x_fits_single_units(
 }
 
 #[unsafe(no_mangle)]
+pub unsafe extern "C" fn h26x_rtp_receiver_new(
+    config: *const Config,
+    types: *const PayloadTypes,
+    made: *mut Place,
+) -> u32 {
+    // SAFETY: a caller owes what the header says.
+    unsafe {
+        super::rtp_receiver::h26x_rtp_receiver_new(
+            pointers::shared(config),
+            pointers::shared(types),
+            pointers::made(made),
+        )
+    }
+}
+
+#[unsafe(no_mangle)]
+pub unsafe extern "C" fn h26x_rtp_receiver_free(r: Handle) {
+    if r.ptr.is_null() {
+        return;
+    }
+    super::rtp_receiver::h26x_rtp_receiver_free(r)
+}
+
+#[unsafe(no_mangle)]
+pub unsafe extern "C" fn h26x_rtp_receiver_set_config(
+    r: *mut Handle,
+    config: *const Config,
+) -> u32 {
+    // SAFETY: a caller owes what the header says.
+    unsafe {
+        super::rtp_receiver::h26x_rtp_receiver_set_config(
+            pointers::lent(r),
+            pointers::shared(config),
+        )
+    }
+}
+
+#[unsafe(no_mangle)]
+pub unsafe extern "C" fn h26x_rtp_receiver_follow(r: *mut Handle, sources: *const Sources) -> u32 {
+    // SAFETY: a caller owes what the header says.
+    unsafe {
+        super::rtp_receiver::h26x_rtp_receiver_follow(pointers::lent(r), pointers::shared(sources))
+    }
+}
+
+#[unsafe(no_mangle)]
+pub unsafe extern "C" fn h26x_rtp_receiver_sources(
+    r: *const ConstHandle,
+    sources: *mut Sources,
+) -> u32 {
+    let mut no_sources = MaybeUninit::uninit();
+    // SAFETY: a caller owes what the header says.
+    unsafe {
+        super::rtp_receiver::h26x_rtp_receiver_sources(
+            pointers::shared(r),
+            pointers::output(sources, &mut no_sources),
+        )
+    }
+}
+
+#[unsafe(no_mangle)]
+pub unsafe extern "C" fn h26x_rtp_receiver_push(
+    r: *mut Handle,
+    now: u32,
+    arrival: u32,
+    datagram: *const u8,
+    datagram_len: usize,
+    told: *mut DatagramTold,
+) -> u32 {
+    let mut no_told = MaybeUninit::uninit();
+    // SAFETY: a caller owes what the header says.
+    unsafe {
+        super::rtp_receiver::h26x_rtp_receiver_push(
+            pointers::lent(r),
+            now,
+            arrival,
+            pointers::items(datagram, datagram_len),
+            pointers::output(told, &mut no_told),
+        )
+    }
+}
+
+#[unsafe(no_mangle)]
+pub unsafe extern "C" fn h26x_rtp_receiver_next(
+    r: *mut Handle,
+    now: u32,
+    to: *mut u8,
+    room: usize,
+    unit: *mut UnitTold,
+) -> u32 {
+    let mut no_unit = MaybeUninit::uninit();
+    // SAFETY: a caller owes what the header says.
+    unsafe {
+        super::rtp_receiver::h26x_rtp_receiver_next(
+            pointers::lent(r),
+            now,
+            pointers::room(to, room),
+            pointers::output(unit, &mut no_unit),
+        )
+    }
+}
+
+#[unsafe(no_mangle)]
+pub unsafe extern "C" fn h26x_rtp_receiver_deadline(r: *const ConstHandle, at: *mut u32) -> bool {
+    let mut no_at = MaybeUninit::uninit();
+    // SAFETY: a caller owes what the header says.
+    unsafe {
+        super::rtp_receiver::h26x_rtp_receiver_deadline(
+            pointers::shared(r),
+            pointers::output(at, &mut no_at),
+        )
+    }
+}
+
+#[unsafe(no_mangle)]
+pub unsafe extern "C" fn h26x_rtp_receiver_nacks(
+    r: *mut Handle,
+    now: u32,
+    times: *const NackTimes,
+    numbers: *mut u16,
+    numbers_room: usize,
+    count: *mut usize,
+) -> u32 {
+    let mut no_count = MaybeUninit::uninit();
+    // SAFETY: a caller owes what the header says.
+    unsafe {
+        super::rtp_receiver::h26x_rtp_receiver_nacks(
+            pointers::lent(r),
+            now,
+            pointers::shared(times),
+            pointers::room(numbers, numbers_room),
+            pointers::output(count, &mut no_count),
+        )
+    }
+}
+
+#[unsafe(no_mangle)]
+pub unsafe extern "C" fn h26x_rtp_receiver_keyframe_wanted(
+    r: *mut Handle,
+    now: u32,
+    again: u32,
+) -> bool {
+    // SAFETY: a caller owes what the header says.
+    unsafe { super::rtp_receiver::h26x_rtp_receiver_keyframe_wanted(pointers::lent(r), now, again) }
+}
+
+#[unsafe(no_mangle)]
+pub unsafe extern "C" fn h26x_rtp_receiver_statistics(
+    r: *const ConstHandle,
+    counted: *mut Statistics,
+) -> u32 {
+    let mut no_counted = MaybeUninit::uninit();
+    // SAFETY: a caller owes what the header says.
+    unsafe {
+        super::rtp_receiver::h26x_rtp_receiver_statistics(
+            pointers::shared(r),
+            pointers::output(counted, &mut no_counted),
+        )
+    }
+}
+
+#[unsafe(no_mangle)]
+pub unsafe extern "C" fn h26x_rtp_receiver_report(
+    r: *mut Handle,
+    last_sender_report: u32,
+    delay: u32,
+    report: *mut Report,
+) -> bool {
+    let mut no_report = MaybeUninit::uninit();
+    // SAFETY: a caller owes what the header says.
+    unsafe {
+        super::rtp_receiver::h26x_rtp_receiver_report(
+            pointers::lent(r),
+            last_sender_report,
+            delay,
+            pointers::output(report, &mut no_report),
+        )
+    }
+}
+
+#[unsafe(no_mangle)]
+pub unsafe extern "C" fn h26x_rtp_receiver_finish(r: *mut Handle) -> u32 {
+    // SAFETY: a caller owes what the header says.
+    unsafe { super::rtp_receiver::h26x_rtp_receiver_finish(pointers::lent(r)) }
+}
+
+#[unsafe(no_mangle)]
+pub unsafe extern "C" fn h26x_rtp_receiver_count(
+    r: *const ConstHandle,
+    counts: *mut Counts,
+) -> u32 {
+    let mut no_counts = MaybeUninit::uninit();
+    // SAFETY: a caller owes what the header says.
+    unsafe {
+        super::rtp_receiver::h26x_rtp_receiver_count(
+            pointers::shared(r),
+            pointers::output(counts, &mut no_counts),
+        )
+    }
+}
+
+#[unsafe(no_mangle)]
 pub unsafe extern "C" fn h26x_sdp_read(
     codec: u32,
     text: *const u8,
@@ -1016,6 +1280,24 @@ pub unsafe extern "C" fn h26x_sdp_answer_any_order(
         super::sdp::h26x_sdp_answer_any_order(
             pointers::shared(offered),
             pointers::shared(ours),
+            pointers::made(made),
+        )
+    }
+}
+
+#[unsafe(no_mangle)]
+pub unsafe extern "C" fn h26x_sdp_answer_webrtc(
+    offered: *const ConstHandle,
+    ours: *const ConstHandle,
+    any_order: bool,
+    made: *mut Place,
+) -> u32 {
+    // SAFETY: a caller owes what the header says.
+    unsafe {
+        super::sdp::h26x_sdp_answer_webrtc(
+            pointers::shared(offered),
+            pointers::shared(ours),
+            any_order,
             pointers::made(made),
         )
     }

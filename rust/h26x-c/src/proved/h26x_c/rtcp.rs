@@ -44,7 +44,7 @@ pub struct Statistics {
 }
 
 /// A report block as C has it.
-fn report_of(block: ReportBlock) -> Report {
+pub fn report_of(block: ReportBlock) -> Report {
     Report {
         ssrc: block.ssrc,
         lost: block.lost,
@@ -95,7 +95,7 @@ fn statistics_in(it: &Statistics) -> RtpStatistics {
 }
 
 /// What C holds of what was counted.
-fn statistics_told(it: RtpStatistics) -> Statistics {
+pub fn statistics_told(it: RtpStatistics) -> Statistics {
     Statistics {
         expected: it.expected,
         received: it.received,

@@ -38,7 +38,7 @@ pub struct RtpPlaces {
 }
 
 /// Why bytes are no packet, as a code.
-fn code_of_reading(error: RtpError) -> u32 {
+pub fn code_of_reading(error: RtpError) -> u32 {
     match error {
         RtpError::TooShort => 50,
         RtpError::OtherVersion(_) => 51,
@@ -202,7 +202,7 @@ pub fn h26x_rtx_write(
 }
 
 /// Why bytes are no redundant payload, as a code.
-fn code_of_red(error: RedError) -> u32 {
+pub fn code_of_red(error: RedError) -> u32 {
     match error {
         RedError::HeadersPastTheEnd => 61,
         RedError::BlocksPastTheEnd => 62,

@@ -2,7 +2,7 @@
 
 //! The calls on format parameters of SDP.
 
-use crate::proved::h26x_answers::AnswerConfig;
+use crate::proved::h26x_answers::{AnswerConfig, AnswerRules};
 use crate::proved::h26x_c::const_handle::ConstHandle;
 use crate::proved::h26x_c::copied::copy_out;
 use crate::proved::h26x_c::handle::Handle;
@@ -86,7 +86,11 @@ pub fn h26x_sdp_answer(
     ours: &ConstHandle,
     made: &mut MaybeUninit<Place>,
 ) -> u32 {
-    answered(AnswerConfig { any_order: false }, offered, ours, made)
+    let config = AnswerConfig {
+        any_order: false,
+        rules: AnswerRules::Rfc,
+    };
+    answered(config, offered, ours, made)
 }
 
 /// The same of units in any order.
@@ -95,7 +99,25 @@ pub fn h26x_sdp_answer_any_order(
     ours: &ConstHandle,
     made: &mut MaybeUninit<Place>,
 ) -> u32 {
-    answered(AnswerConfig { any_order: true }, offered, ours, made)
+    let config = AnswerConfig {
+        any_order: true,
+        rules: AnswerRules::Rfc,
+    };
+    answered(config, offered, ours, made)
+}
+
+/// The same as WebRTC's peers do it, of units in decoding order or in any.
+pub fn h26x_sdp_answer_webrtc(
+    offered: &ConstHandle,
+    ours: &ConstHandle,
+    any_order: bool,
+    made: &mut MaybeUninit<Place>,
+) -> u32 {
+    let config = AnswerConfig {
+        any_order,
+        rules: AnswerRules::Webrtc,
+    };
+    answered(config, offered, ours, made)
 }
 
 /// Frees format parameters.

@@ -61,7 +61,7 @@ pub struct Refusal {
 }
 
 /// The code of a refusal of a packet, and its numbers.
-pub fn code_of(error: PacketError, why: &mut MaybeUninit<Refusal>) -> u32 {
+pub fn code_and_numbers(error: PacketError) -> (u32, Refusal) {
     let (code, first, second) = match error {
         PacketError::ErrShortPacket => (SHORT_PACKET, 0, 0),
         PacketError::NaluTypeIsNotHandled(kind) => (2, usize::from(kind), 0),
@@ -72,7 +72,13 @@ pub fn code_of(error: PacketError, why: &mut MaybeUninit<Refusal>) -> u32 {
         PacketError::AvcUnitTooLong => (7, 0, 0),
         PacketError::OutOfMemory => (OUT_OF_MEMORY, 0, 0),
     };
-    why.write(Refusal { first, second });
+    (code, Refusal { first, second })
+}
+
+/// The same, with the numbers at a place.
+pub fn code_of(error: PacketError, why: &mut MaybeUninit<Refusal>) -> u32 {
+    let (code, numbers) = code_and_numbers(error);
+    why.write(numbers);
     code
 }
 

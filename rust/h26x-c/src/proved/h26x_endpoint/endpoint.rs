@@ -4,6 +4,7 @@
 
 use crate::proved::h26x_handles::access_units::AccessUnitEndpoint;
 use crate::proved::h26x_handles::receiving::ReceivingEndpoint;
+use crate::proved::h26x_handles::rtp_receiver::RtpReceiverEndpoint;
 use crate::proved::h26x_handles::sending::SendingEndpoint;
 use crate::proved::h26x_handles::sequenced::SequencedEndpoint;
 use crate::proved::h26x_sdp_handles::sdp::SdpEndpoint;
@@ -18,6 +19,8 @@ pub enum Endpoint {
     Sequenced(SequencedEndpoint),
     /// It receives access units, of packets as a network brings them.
     AccessUnits(AccessUnitEndpoint),
+    /// It receives access units, of datagrams as a socket brings them.
+    RtpReceiver(RtpReceiverEndpoint),
     /// Format parameters of SDP.
     Sdp(SdpEndpoint),
 }

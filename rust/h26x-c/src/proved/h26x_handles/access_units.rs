@@ -81,7 +81,7 @@ pub fn code_of_next(answer: NextAnswer, told: &mut MaybeUninit<UnitTold>) -> u32
 }
 
 /// What is told of an access unit.
-fn told_of(unit: &ReceivedAccessUnit) -> UnitTold {
+pub(crate) fn told_of(unit: &ReceivedAccessUnit) -> UnitTold {
     UnitTold {
         len: unit.bytes.len(),
         timestamp: unit.timestamp,

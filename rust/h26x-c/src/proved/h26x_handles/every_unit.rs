@@ -2,18 +2,23 @@
 
 //! Packets of the units of an access unit, where every unit goes.
 
-use crate::proved::h26x_codec::{refused_among_all, sent_units};
+use crate::proved::h26x_codec::refused_among_all;
 use crate::proved::h26x_handles::sending::SendingEndpoint;
+use crate::proved::h26x_handles::unit_list::{UnitList, list_sent};
 use crate::proved::h26x_packetizer::{EveryUnitError, PacketsSize, Placement};
 use crate::support::AllocError;
-use alloc::vec::Vec;
 use core::mem;
 
 impl SendingEndpoint {
-    /// The units of an access unit in Annex B form that are sent, as slices of it.
-    fn sent_units<'a>(&self, access_unit: &'a [u8]) -> Result<Vec<&'a [u8]>, AllocError> {
+    /// Appends the units of an access unit in Annex B form that are sent to a list, as slices of it.
+    #[inline(always)]
+    fn list_sent<'a>(
+        &self,
+        access_unit: &'a [u8],
+        list: &mut UnitList<'a>,
+    ) -> Result<(), AllocError> {
         let codec = self.packetizer.codec();
-        sent_units(codec, self.settings.delimiters, access_unit)
+        list_sent(codec, self.settings.delimiters, access_unit, list)
     }
 
     /// An error of sending them, a refused unit by its place among all units of the access unit.
@@ -30,12 +35,13 @@ impl SendingEndpoint {
         mtu: usize,
         access_unit: &[u8],
     ) -> Result<(), EveryUnitError> {
-        let units = self.sent_units(access_unit)?;
+        let mut list = UnitList::new(access_unit);
+        self.list_sent(access_unit, &mut list)?;
         let packing = self.settings.packing;
         self.spare.clear();
         match self
             .packetizer
-            .packetize_units_into(packing, mtu, &units, &mut self.spare)
+            .packetize_units_into(packing, mtu, list.as_slice(), &mut self.spare)
         {
             Ok(()) => {
                 mem::swap(&mut self.packets, &mut self.spare);
@@ -53,9 +59,13 @@ impl SendingEndpoint {
         access_unit: &[u8],
         headroom: usize,
     ) -> Result<PacketsSize, EveryUnitError> {
-        let units = self.sent_units(access_unit)?;
+        let mut list = UnitList::new(access_unit);
+        self.list_sent(access_unit, &mut list)?;
         let packing = self.settings.packing;
-        match self.packetizer.units_size(packing, mtu, &units, headroom) {
+        match self
+            .packetizer
+            .units_size(packing, mtu, list.as_slice(), headroom)
+        {
             Ok(size) => Ok(size),
             Err(error) => Err(self.refused_among_all(access_unit, error)),
         }
@@ -71,11 +81,17 @@ impl SendingEndpoint {
         to: &mut [u8],
         ends: &mut [usize],
     ) -> Result<Placement, EveryUnitError> {
-        let units = self.sent_units(access_unit)?;
+        let mut list = UnitList::new(access_unit);
+        self.list_sent(access_unit, &mut list)?;
         let packing = self.settings.packing;
-        let made = self
-            .packetizer
-            .packetize_units_to_memory(packing, mtu, &units, headroom, to, ends);
+        let made = self.packetizer.packetize_units_to_memory(
+            packing,
+            mtu,
+            list.as_slice(),
+            headroom,
+            to,
+            ends,
+        );
         match made {
             Ok(placement) => Ok(placement),
             Err(error) => Err(self.refused_among_all(access_unit, error)),

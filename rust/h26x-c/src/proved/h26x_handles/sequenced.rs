@@ -11,6 +11,13 @@ use crate::proved::h26x_receiver::{Received, SequencedDepacketizer};
 use alloc::vec::Vec;
 use core::mem::MaybeUninit;
 
+/// What became of a packet that wasn't refused, and how many bytes it completed.
+#[derive(Clone, Copy)]
+pub struct Completed {
+    pub received: Received,
+    pub len: usize,
+}
+
 /// A receiver of a codec's packets with their sequence numbers, and what the last packet that was
 /// taken completed and had no room for.
 pub struct SequencedEndpoint {
@@ -57,14 +64,30 @@ impl SequencedEndpoint {
         written: &mut MaybeUninit<usize>,
         extra: &mut CodecExtra,
     ) -> Result<Received, PacketError> {
+        let completed = self.receive_counted(sequence, packet, to, extra)?;
+        if completed.received.is_taken() {
+            written.write(completed.len);
+        }
+        Ok(completed.received)
+    }
+
+    /// The same, where the answer tells how many bytes are completed: none by a packet that isn't
+    /// taken.
+    pub fn receive_counted(
+        &mut self,
+        sequence: u16,
+        packet: &[u8],
+        to: &mut [u8],
+        extra: &mut CodecExtra,
+    ) -> Result<Completed, PacketError> {
         let mut memory = MemorySink::new(to);
         match self.receiver.receive(sequence, packet, &mut memory, extra) {
             Ok(received) => {
+                let len = memory.len();
                 if received.is_taken() {
-                    written.write(memory.len());
                     self.written.clear();
                 }
-                return Ok(received);
+                return Ok(Completed { received, len });
             }
             Err(PacketError::OutOfMemory) if memory.lacks_room() => {}
             Err(error) => return Err(error),
@@ -74,8 +97,8 @@ impl SequencedEndpoint {
             .receiver
             .receive(sequence, packet, &mut self.spare, extra)?;
         // It is taken: one that is late is answered at once, and memory lacks for none.
-        written.write(put_or_keep(&mut self.spare, to, &mut self.written));
-        Ok(received)
+        let len = put_or_keep(&mut self.spare, to, &mut self.written);
+        Ok(Completed { received, len })
     }
 
     /// Passes over a number that came and bears nothing of the stream: it isn't missing.

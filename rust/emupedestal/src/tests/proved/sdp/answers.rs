@@ -372,7 +372,10 @@ const H266: [Exchange; 6] = [
 
 /// Each offer has its answer.
 fn all_answered<P: CodecRules>(exchanges: &[Exchange]) {
-    let any_order = AnswerConfig { any_order: true };
+    let any_order = AnswerConfig {
+        any_order: true,
+        ..AnswerConfig::default()
+    };
     for exchange in exchanges {
         let mut offer = Vec::new();
         for (payload_type, line) in exchange.offer {
