@@ -24,7 +24,7 @@ from .tree import (Function, Refused, Token, add_use, after, at, bare, bare_word
 
 RENAMED = {("H265AggregationPacket", "nal_units"): "try_nal_units"}
 # By crate.
-UNHINTED = {"h26x_depacketizer": "write_units", "h265_payload": "prepare"}
+UNHINTED = {"h26x_depacketizer": "write_units"}
 # Words of Rattle that no output may have, and of a Rust that isn't stable.
 RATTLE = {"ghost", "requires", "ensures", "prove", "prove_eq", "prove_ne", "Model", "Global",
           "HostRuntime", "allocator", "thiserror", "simd"}

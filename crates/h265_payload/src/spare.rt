@@ -81,6 +81,7 @@ impl Spare {
     }
 
     /// Puts the next packet's data in place.
+    #[inline]
     pub fn put_data(&mut self, bytes: &[u8]) -> Result<(), AllocError>
         ensures data { OnOk result (self.new.data.items ≡ bytes.now) }
     {
@@ -89,6 +90,7 @@ impl Spare {
     }
 
     /// Removes the data.
+    #[inline]
     pub fn remove_data(&mut self) -> Vec<u8>
         ensures data { result.items ≡ self.old.data.items }
         ensures others { self.new.others.items ≡ self.old.others.items }

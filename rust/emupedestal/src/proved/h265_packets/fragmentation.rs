@@ -33,6 +33,7 @@ impl core::fmt::Debug for H265FragmentationUnitPacket {
 
 impl H265FragmentationUnitPacket {
     /// The packet of these parts (RFC 7798, 4.4.3). `has_donl` is the mark that `with_donl` sets.
+    #[inline]
     pub(crate) fn of(
         header: H265NALUHeader,
         fu_header: H265FragmentationUnitHeader,
@@ -99,6 +100,7 @@ impl H265FragmentationUnitPacket {
     }
 
     /// The packet of these parts in the place of this one; the payloads are exchanged.
+    #[inline]
     pub(crate) fn set(
         &mut self,
         header: H265NALUHeader,

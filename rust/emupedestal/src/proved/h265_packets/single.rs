@@ -31,6 +31,7 @@ impl core::fmt::Debug for H265SingleNALUnitPacket {
 
 impl H265SingleNALUnitPacket {
     /// The packet of these parts (RFC 7798, 4.4.1). `has_donl` is the mark that `with_donl` sets.
+    #[inline]
     pub(crate) fn of(
         header: H265NALUHeader,
         donl: Option<u16>,
@@ -88,6 +89,7 @@ impl H265SingleNALUnitPacket {
     }
 
     /// The packet of these parts in the place of this one; the payloads are exchanged.
+    #[inline]
     pub(crate) fn set(
         &mut self,
         header: H265NALUHeader,

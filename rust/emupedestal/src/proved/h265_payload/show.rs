@@ -15,6 +15,7 @@ use crate::support::AllocError;
 use core::mem;
 
 /// DONL, where packets bear it and it is there.
+#[inline]
 fn donl_of(has_donl: bool, bytes: &[u8]) -> Option<u16> {
     if has_donl && bytes.len() >= 2 {
         Some(u16::from_be_bytes([bytes[0], bytes[1]]))
@@ -24,6 +25,7 @@ fn donl_of(has_donl: bool, bytes: &[u8]) -> Option<u16> {
 }
 
 /// What stands behind DONL.
+#[inline]
 fn behind_donl(has_donl: bool, bytes: &[u8]) -> &[u8] {
     if !has_donl {
         return bytes;
@@ -35,6 +37,7 @@ fn behind_donl(has_donl: bool, bytes: &[u8]) -> &[u8] {
 }
 
 /// What stands behind a packet's words and number.
+#[inline]
 fn data_of(has_donl: bool, packet: &[u8]) -> &[u8] {
     let header = header_of(packet);
     if header.is_fragmentation_unit() {
@@ -49,6 +52,7 @@ fn data_of(has_donl: bool, packet: &[u8]) -> &[u8] {
 
 /// Gets ready in the spare memory all that a packet is shown by: the units of an aggregate, or the
 /// data of another packet.
+#[inline(always)]
 pub(crate) fn prepare(
     has_donl: bool,
     packet: &[u8],
@@ -88,6 +92,7 @@ fn prepare_others(has_donl: bool, bytes: &[u8], spare: &mut Spare) -> Result<(),
 
 /// Shows a packet for which all is ready. What was shown before is changed in place where it is of
 /// the same kind, and its memory is spare then; that of its data only if it isn't too much.
+#[inline]
 pub(crate) fn show(
     has_donl: bool,
     packet: &[u8],
@@ -108,6 +113,7 @@ pub(crate) fn show(
 }
 
 /// Shows this; the memory of what was shown before is spare then.
+#[inline]
 fn put(shown: H265Payload, payload: &mut H265Payload, spare: &mut Spare) {
     spare.keep(mem::replace(payload, shown));
 }
@@ -125,6 +131,7 @@ fn show_aggregate(donl: Option<u16>, has_donl: bool, payload: &mut H265Payload, 
 }
 
 /// Shows a packet that is no aggregate, whose data stand in the spare memory.
+#[inline]
 fn show_words(has_donl: bool, packet: &[u8], payload: &mut H265Payload, spare: &mut Spare) {
     let header = H265NALUHeader::new(packet[0], packet[1]);
     if header.is_fragmentation_unit() {
@@ -141,6 +148,7 @@ fn show_words(has_donl: bool, packet: &[u8], payload: &mut H265Payload, spare: &
 }
 
 /// Shows a single packet of these parts, with the data in the spare memory.
+#[inline]
 fn show_single(
     header: H265NALUHeader,
     donl: Option<u16>,
@@ -157,6 +165,7 @@ fn show_single(
 }
 
 /// Shows a fragment of these parts, with the data in the spare memory.
+#[inline]
 fn show_fragment(
     header: H265NALUHeader,
     marks: H265FragmentationUnitHeader,

@@ -29,6 +29,7 @@ impl Shows<H265> for H265Payload {
         codec.read(packet)
     }
 
+    #[inline(always)]
     fn prepare(
         codec: H265,
         is_avc: bool,

@@ -74,12 +74,14 @@ impl Spare {
     }
 
     /// Puts the next packet's data in place.
+    #[inline]
     pub(crate) fn put_data(&mut self, bytes: &[u8]) -> Result<(), AllocError> {
         self.data.clear();
         self.data.try_extend_from_slice(bytes)
     }
 
     /// Removes the data.
+    #[inline]
     pub fn remove_data(&mut self) -> Vec<u8> {
         mem::take(&mut self.data)
     }
