@@ -173,14 +173,16 @@ impl PayloadFormat for H266 {
     ghost headed = { λ codec unit is. has_header unit is };
 
     ghost keyed = { λ codec head rest two. header_tells head rest two };
-
-    ghost one_kind = { λ codec other unit. refl };
 }
 
 impl DonlFormat for H266 {
+    ghost use Rattle.std.specs.Prelude.{refl};
+
     ghost with_donl_of = { λ codec has_donl. record codec { has_donl = has_donl } };
 
     fn with_donl(self, has_donl: bool) -> Self {
         H266 { has_donl }
     }
+
+    ghost same_kind = { λ codec has_donl unit. refl };
 }

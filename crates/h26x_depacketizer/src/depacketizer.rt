@@ -67,8 +67,19 @@ impl<C: PacketReader, S: Shows<C>> PayloadDepacketizer<C, S> {
         ensures run { result.run ≡ None }
         ensures payload { result.payload ≡ S.fresh }
     {
+        PayloadDepacketizer::with_codec(alloc, C::new())
+    }
+
+    /// A depacketizer of this setting, which writes start codes, has no run open and shows no packet
+    /// yet.
+    pub fn with_codec(alloc: Global, codec: C) -> Self
+        ensures codec { result.codec ≡ codec }
+        ensures avc { result.is_avc ≡ false }
+        ensures run { result.run ≡ None }
+        ensures payload { result.payload ≡ S.fresh }
+    {
         PayloadDepacketizer {
-            codec: C::new(),
+            codec,
             is_avc: false,
             run: OpenRun::none(alloc),
             payload: S::new(alloc),
@@ -224,9 +235,9 @@ impl<C: PacketReader, S: Shows<C>> PayloadDepacketizer<C, S> {
         Ok(())
     }
 
-    /// Its setting.
+    /// Its codec's setting.
     #[inline]
-    pub(crate) fn codec(&self) -> C
+    pub fn codec(&self) -> C
         ensures { result ≡ self.now.codec }
     {
         self.codec

@@ -116,8 +116,15 @@ impl<C: PayloadFormat> PayloadPacketizer<C> {
     pub fn new(alloc: Global) -> Self
         ensures { result ≡ fresh_packetizer C.fresh }
     {
+        PayloadPacketizer::with_codec(alloc, C::new())
+    }
+
+    /// A packetizer of this setting for which nothing waits; its memory comes from `alloc`.
+    pub fn with_codec(alloc: Global, codec: C) -> Self
+        ensures { result ≡ fresh_packetizer codec }
+    {
         PayloadPacketizer {
-            codec: C::new(),
+            codec,
             vps: None,
             sps: None,
             pps: None,
@@ -125,6 +132,13 @@ impl<C: PayloadFormat> PayloadPacketizer<C> {
             max_packet_size: FIRST_LARGEST,
             alloc,
         }
+    }
+
+    /// Its codec's setting.
+    pub fn codec(&self) -> C
+        ensures { result ≡ self.now.codec }
+    {
+        self.codec
     }
 
     /// A packetizer with the same setting, sets that wait, next number and largest packet size.

@@ -111,10 +111,6 @@ pub trait PayloadFormat: Copy + fmt::Debug {
     // A header tells whether its unit is of a key type.
     ghost keyed: { (codec : Self) (head rest : List ℕ) → length head ≡ (format codec).header_len →
         (format codec).is_key (head ++ rest) ≡ (format codec).is_key head };
-
-    // No setting changes what a unit is.
-    ghost one_kind: { (codec other : Self) (unit : List ℕ) →
-        (format codec).kind unit ≡ (format other).kind unit };
 }
 
 /// A codec whose packets can bear decoding order numbers (RFC 7798, 4.6; RFC 9328, 4.4), and whose
@@ -125,4 +121,8 @@ pub trait DonlFormat: PayloadFormat {
     /// The same setting, with or without numbers.
     fn with_donl(self, has_donl: bool) -> Self
         ensures { result ≡ with_donl_of self has_donl };
+
+    // Numbers change nothing of what a unit is.
+    ghost same_kind: { (codec : Self) (has_donl : Bool) (unit : List ℕ) →
+        (Self.format codec).kind unit ≡ (Self.format (with_donl_of codec has_donl)).kind unit };
 }

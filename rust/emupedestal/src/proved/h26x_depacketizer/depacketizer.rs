@@ -37,8 +37,14 @@ impl<C: PacketReader, S: Shows<C>> PayloadDepacketizer<C, S> {
     /// A depacketizer with the setting of a new one, which writes start codes, has no run open and
     /// shows no packet yet.
     pub fn new() -> Self {
+        PayloadDepacketizer::with_codec(C::new())
+    }
+
+    /// A depacketizer of this setting, which writes start codes, has no run open and shows no packet
+    /// yet.
+    pub fn with_codec(codec: C) -> Self {
         PayloadDepacketizer {
-            codec: C::new(),
+            codec,
             is_avc: false,
             run: OpenRun::none(),
             payload: S::new(),
@@ -132,9 +138,9 @@ impl<C: PacketReader, S: Shows<C>> PayloadDepacketizer<C, S> {
         Ok(())
     }
 
-    /// Its setting.
+    /// Its codec's setting.
     #[inline]
-    pub(crate) fn codec(&self) -> C {
+    pub fn codec(&self) -> C {
         self.codec
     }
 

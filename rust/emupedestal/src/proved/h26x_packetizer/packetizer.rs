@@ -92,14 +92,24 @@ fn replace_set(set: &mut Option<Vec<u8>>, are_sent: bool, brought: Option<Vec<u8
 impl<C: PayloadFormat> PayloadPacketizer<C> {
     /// A packetizer for which nothing waits.
     pub fn new() -> Self {
+        PayloadPacketizer::with_codec(C::new())
+    }
+
+    /// A packetizer of this setting for which nothing waits.
+    pub fn with_codec(codec: C) -> Self {
         PayloadPacketizer {
-            codec: C::new(),
+            codec,
             vps: None,
             sps: None,
             pps: None,
             next_don: 0,
             max_packet_size: FIRST_LARGEST,
         }
+    }
+
+    /// Its codec's setting.
+    pub fn codec(&self) -> C {
+        self.codec
     }
 
     /// A packetizer with the same setting, sets that wait, next number and largest packet size.

@@ -1,6 +1,6 @@
 use Rattle.std.proofs.Common.{refl, arith}
 use Rattle.h26x_model.specs.Send.WaitingSets.{NoSet}
-use Rattle.h26x_packetizer.proofs.packetizer.PayloadPacketizer.new.Goals as goal
+use Rattle.h26x_packetizer.proofs.packetizer.PayloadPacketizer.with_codec.Goals as goal
 
 pub invariant_of-result : goal.invariant_of-result
 invariant_of-result g c = record {
