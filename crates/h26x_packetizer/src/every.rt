@@ -87,6 +87,9 @@ pub(crate) fn push_units<'a, C: EveryFormat, S: PacketSink<'a>>(
     ensures memory { OnErr result (result ≡ Err PacketError.OutOfMemory) }
 {
     laws::donl_has_two_bytes();
+    if units.len() == 1 {
+        return push_unit(codec, limit, don, units[0], made);
+    }
     let mut don = don;
     let mut at = 0;
     while at < units.len() {

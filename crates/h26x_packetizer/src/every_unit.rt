@@ -7,19 +7,19 @@ ghost use Rattle.h26x_packetizer.specs.Buffer.{with_packets, with_memory, IsMemo
 ghost use Rattle.h26x_packetizer.specs.Group.{lent_units, may_share};
 ghost use Rattle.h26x_packetizer.specs.Placement.{IsPlacement, IsSizeOf, if_placed};
 ghost use Rattle.h26x_packetizer.specs.Refusal.{units_refusal};
-ghost use Rattle.h26x_packetizer.specs.PacketizerView.{IsPacketizerView, limit_of, view_with_update};
+ghost use Rattle.h26x_packetizer.specs.PacketizerView.{IsPacketizerView, limit_of};
 ghost use Rattle.h26x_packetizer.specs.EveryView.{every_packets, view_after_units};
 
 use crate::buffer::{Appending, PacketBuffer};
 use crate::every::push_units;
 use crate::every_format::EveryFormat;
-use crate::packet_parts::PacketParts;
+use crate::group::fit_together;
+use crate::packet_parts::{OnePacket, PacketParts};
 use crate::packetizer::PayloadPacketizer;
 use crate::packing::Packing;
 use crate::placement::{PacketsSize, Placement, place, size_of};
 use crate::refusal::{RefusedUnit, units_refusal};
 use crate::sink::PacketSink;
-use crate::update::Update;
 use std::alloc::AllocError;
 
 /// Why units are refused. A refused call changes nothing.
@@ -32,20 +32,21 @@ pub enum EveryUnitError {
 }
 
 impl<C: EveryFormat> PayloadPacketizer<C> {
-    /// Appends the packets of units, and tells what the call changes.
+    /// Appends the packets of units; the next number.
     fn prepare_units<'a, S: PacketSink<'a>>(
         &self,
         packing: Packing,
         mtu: usize,
         units: &'a [&'a [u8]],
         made: &mut S,
-    ) -> Result<Update, EveryUnitError>
+    ) -> Result<u16, EveryUnitError>
         ensures packets { OnOk result (S.packets made.new ≡ S.packets made.old
             ++ every_packets C.format C.aggregate (may_share packing (C.is_slice self.now.codec))
             self.now mtu (lent_units units.now)) }
-        ensures after { IfOk result (λ it. view_with_update self.now it
+        ensures after { IfOk result (λ it. (record self.now { next_don = it })
             ≡ view_after_units C.format self.now (lent_units units.now)) }
-        ensures is { IfOk result (λ it. IsPacketizerView C.format (view_with_update self.now it)) }
+        ensures is { IfOk result (λ it.
+            IsPacketizerView C.format (record self.now { next_don = it })) }
         ensures before { S.before made.new ≡ S.before made.old }
         ensures within { IfOk result (λ it. AreWithinLimit (limit_of C.format self.now mtu)
             (every_packets C.format C.aggregate (may_share packing (C.is_slice self.now.codec))
@@ -62,7 +63,9 @@ impl<C: EveryFormat> PayloadPacketizer<C> {
             return Err(EveryUnitError::Unit(unit));
         }
         // (room for a few at once: a list that grows packet by packet moves more often)
-        made.reserve(1)?;
+        if units.len() > 1 {
+            made.reserve(1)?;
+        }
         match push_units(self.codec, packing, limit, self.next_don, units, made) {
             Ok(next_don) => {
                 let next_don = if self.codec.has_donl() {
@@ -70,7 +73,7 @@ impl<C: EveryFormat> PayloadPacketizer<C> {
                 } else {
                     self.next_don
                 };
-                Ok(Update::number(next_don))
+                Ok(next_don)
             }
             Err(_) => Err(EveryUnitError::OutOfMemory),
         }
@@ -85,7 +88,7 @@ impl<C: EveryFormat> PayloadPacketizer<C> {
     /// kinds the units are of.
     ///
     /// The first unit that can't go is named, and nothing is sent then: one without a whole header,
-    /// with F set, of a type of packets, or too long where no fragment has room for data. Else
+    /// with F set, of a type that no unit has, or too long where no fragment has room for data. Else
     /// `OutOfMemory` is its only error. Both leave everything.
     pub fn packetize_units<'a>(
         &mut self,
@@ -109,8 +112,8 @@ impl<C: EveryFormat> PayloadPacketizer<C> {
             OnErr result (result ≡ Err EveryUnitError.OutOfMemory) }
     {
         let mut made = Vec::new(self.alloc);
-        let update = self.prepare_units(packing, mtu, units, &mut made)?;
-        self.commit(update);
+        let next_don = self.prepare_units(packing, mtu, units, &mut made)?;
+        self.next_don = next_don;
         Ok(made)
     }
 
@@ -145,9 +148,9 @@ impl<C: EveryFormat> PayloadPacketizer<C> {
     {
         let mut made = Appending::from_buffer(self.alloc, into);
         match self.prepare_units(packing, mtu, units, &mut made) {
-            Ok(update) => {
+            Ok(next_don) => {
                 made.finish(into)?;
-                self.commit(update);
+                self.next_don = next_don;
                 Ok(())
             }
             Err(e) => {
@@ -182,7 +185,7 @@ impl<C: EveryFormat> PayloadPacketizer<C> {
         Ok(size_of(&made, headroom))
     }
 
-    /// Copies the packets of units to memory where they fit, and tells what the call changes.
+    /// Copies the packets of units to memory where they fit; the next number.
     fn prepare_units_placed<'a>(
         &self,
         packing: Packing,
@@ -191,14 +194,14 @@ impl<C: EveryFormat> PayloadPacketizer<C> {
         headroom: usize,
         to: &mut [u8],
         ends: &mut [usize],
-    ) -> Result<(Placement, Update), EveryUnitError>
+    ) -> Result<(Placement, u16), EveryUnitError>
         ensures packets { IfOk result (λ it. IsPlacement headroom
             (every_packets C.format C.aggregate (may_share packing (C.is_slice self.now.codec))
             self.now mtu (lent_units units.now)) to.old to.new ends.old ends.new it.0) }
-        ensures after { IfOk result (λ it. view_with_update self.now it.1
+        ensures after { IfOk result (λ it. (record self.now { next_don = it.1 })
             ≡ view_after_units C.format self.now (lent_units units.now)) }
         ensures is { IfOk result (λ it.
-            IsPacketizerView C.format (view_with_update self.now it.1)) }
+            IsPacketizerView C.format (record self.now { next_don = it.1 })) }
         ensures kept_memory { OnErr result ((to.new ≡ to.old) × (ends.new ≡ ends.old)) }
         ensures refused { (unit : RefusedUnit) → units_refusal (C.format self.now.codec) packing
             (limit_of C.format self.now mtu) 0 (lent_units units.now) ≡ Some unit →
@@ -207,9 +210,15 @@ impl<C: EveryFormat> PayloadPacketizer<C> {
             (limit_of C.format self.now mtu) 0 (lent_units units.now) ≡ None →
             OnErr result (result ≡ Err EveryUnitError.OutOfMemory) }
     {
+        if fit_together(self.codec, packing, self.limit(mtu), units) {
+            let mut made = OnePacket::new();
+            if let Ok(next_don) = self.prepare_units(packing, mtu, units, &mut made) {
+                return Ok((place(made.as_slice(), headroom, to, ends), next_don));
+            }
+        }
         let mut made: Vec<PacketParts<'a>> = Vec::new(self.alloc);
-        let update = self.prepare_units(packing, mtu, units, &mut made)?;
-        Ok((place(&made, headroom, to, ends), update))
+        let next_don = self.prepare_units(packing, mtu, units, &mut made)?;
+        Ok((place(&made, headroom, to, ends), next_don))
     }
 
     /// Copies the packets of [`packetize_units`](PayloadPacketizer::packetize_units) straight to memory
@@ -238,11 +247,11 @@ impl<C: EveryFormat> PayloadPacketizer<C> {
             (limit_of C.format self.old mtu) 0 (lent_units units.now) ≡ None →
             OnErr result (result ≡ Err EveryUnitError.OutOfMemory) }
     {
-        let (placement, update) = self.prepare_units_placed(
+        let (placement, next_don) = self.prepare_units_placed(
             packing, mtu, units, headroom, to, ends,
         )?;
         if let Placement::Placed(_) = placement {
-            self.commit(update);
+            self.next_don = next_don;
         }
         Ok(placement)
     }

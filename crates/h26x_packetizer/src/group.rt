@@ -7,6 +7,7 @@ ghost use Rattle.h26x_packetizer.specs.Group.{lent_units, may_share, fits_room, 
 
 use crate::every_format::EveryFormat;
 use crate::packing::Packing;
+use crate::units::fits_one;
 
 /// Whether a unit may share a packet.
 fn may_share<C: EveryFormat>(codec: C, packing: Packing, unit: &[u8]) -> bool
@@ -67,4 +68,19 @@ pub(crate) fn first_group<C: EveryFormat>(
     let room = limit.saturating_sub(codec.units_start());
     let count = fitting(codec, packing, room, units);
     if count == 0 { 1 } else { count }
+}
+
+/// Whether units go in one packet: one whole, or several together.
+#[inline]
+pub(crate) fn fit_together<C: EveryFormat>(
+    codec: C,
+    packing: Packing,
+    limit: usize,
+    units: &[&[u8]],
+) -> bool {
+    if units.len() == 1 {
+        return fits_one(codec, limit, units[0]);
+    }
+    let room = limit.saturating_sub(codec.units_start());
+    fitting(codec, packing, room, units) == units.len()
 }

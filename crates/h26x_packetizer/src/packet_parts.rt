@@ -1,6 +1,6 @@
 //! Packets as the parts that they are made of, before they are copied anywhere.
 
-ghost use Rattle.std.specs.Prelude.{◌≡◌, ◌≤◌, ◌+◌, ◌-◌, ◌^◌, ◌++◌, min, length};
+ghost use Rattle.std.specs.Prelude.{◌≡◌, ◌≤◌, ◌+◌, ◌-◌, ◌^◌, ◌++◌, [], min, length};
 ghost use Rattle.h26x_packetizer.specs.Sending.{packet_bytes};
 
 use crate::body::Body;
@@ -72,6 +72,62 @@ impl<'a> PacketParts<'a> {
             to[..self.header_len].copy_from_slice(&self.header[..self.header_len]);
         }
         self.body.copy_to(&mut to[self.header_len..]);
+    }
+}
+
+/// Room for one packet alone, which takes no memory: a second one is refused.
+#[derive(Drop)]
+pub(crate) struct OnePacket<'a> {
+    packet: Option<PacketParts<'a>>,
+}
+
+impl<'a> Model for OnePacket<'a> {
+    ghost use Rattle.std.specs.Prelude.{List, ℕ};
+    ghost use Rattle.std.specs.Option.{option_to_list};
+
+    ghost Value = { List (List ℕ) };
+
+    ghost view = { λ a. option_to_list a.packet };
+}
+
+impl<'a> OnePacket<'a> {
+    /// None yet.
+    #[inline(always)]
+    pub(crate) fn new() -> Self
+        ensures { result ≡ [] }
+    {
+        OnePacket { packet: None }
+    }
+
+    /// The packet, if there is one, as a slice.
+    #[inline(always)]
+    pub(crate) fn as_slice(&self) -> &[PacketParts<'a>]
+        ensures { result.now ≡ self.now }
+    {
+        self.packet.as_slice()
+    }
+}
+
+impl<'a> PacketSink<'a> for OnePacket<'a> {
+    ghost use Rattle.h26x_packetizer.specs.Buffer.{no_buffer};
+
+    ghost packets = { λ packet. packet };
+
+    ghost before = { λ packet. no_buffer };
+
+    #[inline(always)]
+    fn push(&mut self, header: &[u8], donl: &[u8], body: Body<'a>) -> Result<(), AllocError> {
+        if self.packet.is_some() {
+            return Err(AllocError);
+        }
+        self.packet = Some(PacketParts::new(header, donl, body));
+        Ok(())
+    }
+
+    /// None: it has room for its one.
+    #[inline(always)]
+    fn reserve(&mut self, _count: usize) -> Result<(), AllocError> {
+        Ok(())
     }
 }
 

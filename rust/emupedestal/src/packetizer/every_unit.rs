@@ -103,7 +103,7 @@ macro_rules! every_unit {
             /// # Errors
             ///
             /// The first unit that can't go, by its place from 0 and its length in bytes: without a
-            /// whole header (of one byte of H.264, two of the others), with F set, of a type of packets,
+            /// whole header (of one byte of H.264, two of the others), with F set, of a type that no unit has,
             /// or too long where no fragment may go or has room for data. Nothing is sent then. Else
             /// `OutOfMemory` alone. Both leave the packetizer as it is.
             ///

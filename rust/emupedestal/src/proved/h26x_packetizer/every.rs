@@ -54,6 +54,9 @@ pub(crate) fn push_units<'a, C: EveryFormat, S: PacketSink<'a>>(
     units: &'a [&'a [u8]],
     made: &mut S,
 ) -> Result<u16, PacketError> {
+    if units.len() == 1 {
+        return push_unit(codec, limit, don, units[0], made);
+    }
     let mut don = don;
     let mut at = 0;
     while at < units.len() {

@@ -5,13 +5,13 @@
 use crate::proved::h26x_packetizer::buffer::{Appending, PacketBuffer};
 use crate::proved::h26x_packetizer::every::push_units;
 use crate::proved::h26x_packetizer::every_format::EveryFormat;
-use crate::proved::h26x_packetizer::packet_parts::PacketParts;
+use crate::proved::h26x_packetizer::group::fit_together;
+use crate::proved::h26x_packetizer::packet_parts::{OnePacket, PacketParts};
 use crate::proved::h26x_packetizer::packetizer::PayloadPacketizer;
 use crate::proved::h26x_packetizer::packing::Packing;
 use crate::proved::h26x_packetizer::placement::{PacketsSize, Placement, place, size_of};
 use crate::proved::h26x_packetizer::refusal::{RefusedUnit, units_refusal};
 use crate::proved::h26x_packetizer::sink::PacketSink;
-use crate::proved::h26x_packetizer::update::Update;
 use crate::support::AllocError;
 use alloc::vec::Vec;
 
@@ -25,20 +25,22 @@ pub enum EveryUnitError {
 }
 
 impl<C: EveryFormat> PayloadPacketizer<C> {
-    /// Appends the packets of units, and tells what the call changes.
+    /// Appends the packets of units; the next number.
     fn prepare_units<'a, S: PacketSink<'a>>(
         &self,
         packing: Packing,
         mtu: usize,
         units: &'a [&'a [u8]],
         made: &mut S,
-    ) -> Result<Update, EveryUnitError> {
+    ) -> Result<u16, EveryUnitError> {
         let limit = self.limit(mtu);
         if let Some(unit) = units_refusal(self.codec, packing, limit, units) {
             return Err(EveryUnitError::Unit(unit));
         }
         // (room for a few at once: a list that grows packet by packet moves more often)
-        made.try_reserve(1)?;
+        if units.len() > 1 {
+            made.try_reserve(1)?;
+        }
         match push_units(self.codec, packing, limit, self.next_don, units, made) {
             Ok(next_don) => {
                 let next_don = if self.codec.has_donl() {
@@ -46,7 +48,7 @@ impl<C: EveryFormat> PayloadPacketizer<C> {
                 } else {
                     self.next_don
                 };
-                Ok(Update::number(next_don))
+                Ok(next_don)
             }
             Err(_) => Err(EveryUnitError::OutOfMemory),
         }
@@ -61,7 +63,7 @@ impl<C: EveryFormat> PayloadPacketizer<C> {
     /// kinds the units are of.
     ///
     /// The first unit that can't go is named, and nothing is sent then: one without a whole header,
-    /// with F set, of a type of packets, or too long where no fragment has room for data. Else
+    /// with F set, of a type that no unit has, or too long where no fragment has room for data. Else
     /// `OutOfMemory` is its only error. Both leave everything.
     pub fn packetize_units<'a>(
         &mut self,
@@ -70,8 +72,8 @@ impl<C: EveryFormat> PayloadPacketizer<C> {
         units: &'a [&'a [u8]],
     ) -> Result<Vec<Vec<u8>>, EveryUnitError> {
         let mut made = Vec::new();
-        let update = self.prepare_units(packing, mtu, units, &mut made)?;
-        self.commit(update);
+        let next_don = self.prepare_units(packing, mtu, units, &mut made)?;
+        self.next_don = next_don;
         Ok(made)
     }
 
@@ -86,9 +88,9 @@ impl<C: EveryFormat> PayloadPacketizer<C> {
     ) -> Result<(), EveryUnitError> {
         let mut made = Appending::from_buffer(into);
         match self.prepare_units(packing, mtu, units, &mut made) {
-            Ok(update) => {
+            Ok(next_don) => {
                 made.finish(into)?;
-                self.commit(update);
+                self.next_don = next_don;
                 Ok(())
             }
             Err(e) => {
@@ -113,7 +115,7 @@ impl<C: EveryFormat> PayloadPacketizer<C> {
         Ok(size_of(&made, headroom))
     }
 
-    /// Copies the packets of units to memory where they fit, and tells what the call changes.
+    /// Copies the packets of units to memory where they fit; the next number.
     fn prepare_units_placed<'a>(
         &self,
         packing: Packing,
@@ -122,10 +124,16 @@ impl<C: EveryFormat> PayloadPacketizer<C> {
         headroom: usize,
         to: &mut [u8],
         ends: &mut [usize],
-    ) -> Result<(Placement, Update), EveryUnitError> {
+    ) -> Result<(Placement, u16), EveryUnitError> {
+        if fit_together(self.codec, packing, self.limit(mtu), units) {
+            let mut made = OnePacket::new();
+            if let Ok(next_don) = self.prepare_units(packing, mtu, units, &mut made) {
+                return Ok((place(made.as_slice(), headroom, to, ends), next_don));
+            }
+        }
         let mut made: Vec<PacketParts<'a>> = Vec::new();
-        let update = self.prepare_units(packing, mtu, units, &mut made)?;
-        Ok((place(&made, headroom, to, ends), update))
+        let next_don = self.prepare_units(packing, mtu, units, &mut made)?;
+        Ok((place(&made, headroom, to, ends), next_don))
     }
 
     /// Copies the packets of [`packetize_units`](PayloadPacketizer::packetize_units) straight to memory
@@ -140,10 +148,10 @@ impl<C: EveryFormat> PayloadPacketizer<C> {
         to: &mut [u8],
         ends: &mut [usize],
     ) -> Result<Placement, EveryUnitError> {
-        let (placement, update) =
+        let (placement, next_don) =
             self.prepare_units_placed(packing, mtu, units, headroom, to, ends)?;
         if let Placement::Placed(_) = placement {
-            self.commit(update);
+            self.next_don = next_don;
         }
         Ok(placement)
     }

@@ -4,6 +4,7 @@
 
 use crate::proved::h26x_packetizer::every_format::EveryFormat;
 use crate::proved::h26x_packetizer::packing::Packing;
+use crate::proved::h26x_packetizer::units::fits_one;
 
 /// Whether a unit may share a packet.
 fn may_share<C: EveryFormat>(codec: C, packing: Packing, unit: &[u8]) -> bool {
@@ -47,4 +48,19 @@ pub(crate) fn first_group<C: EveryFormat>(
     let room = limit.saturating_sub(codec.units_start());
     let count = fitting(codec, packing, room, units);
     if count == 0 { 1 } else { count }
+}
+
+/// Whether units go in one packet: one whole, or several together.
+#[inline]
+pub(crate) fn fit_together<C: EveryFormat>(
+    codec: C,
+    packing: Packing,
+    limit: usize,
+    units: &[&[u8]],
+) -> bool {
+    if units.len() == 1 {
+        return fits_one(codec, limit, units[0]);
+    }
+    let room = limit.saturating_sub(codec.units_start());
+    fitting(codec, packing, room, units) == units.len()
 }

@@ -54,6 +54,42 @@ impl<'a> PacketParts<'a> {
     }
 }
 
+/// Room for one packet alone, which takes no memory: a second one is refused.
+pub(crate) struct OnePacket<'a> {
+    packet: Option<PacketParts<'a>>,
+}
+
+impl<'a> OnePacket<'a> {
+    /// None yet.
+    #[inline(always)]
+    pub(crate) fn new() -> Self {
+        OnePacket { packet: None }
+    }
+
+    /// The packet, if there is one, as a slice.
+    #[inline(always)]
+    pub(crate) fn as_slice(&self) -> &[PacketParts<'a>] {
+        self.packet.as_slice()
+    }
+}
+
+impl<'a> PacketSink<'a> for OnePacket<'a> {
+    #[inline(always)]
+    fn try_push(&mut self, header: &[u8], donl: &[u8], body: Body<'a>) -> Result<(), AllocError> {
+        if self.packet.is_some() {
+            return Err(AllocError);
+        }
+        self.packet = Some(PacketParts::new(header, donl, body));
+        Ok(())
+    }
+
+    /// None: it has room for its one.
+    #[inline(always)]
+    fn try_reserve(&mut self, _count: usize) -> Result<(), AllocError> {
+        Ok(())
+    }
+}
+
 impl<'a> PacketSink<'a> for Vec<PacketParts<'a>> {
     #[inline(always)]
     fn try_push(&mut self, header: &[u8], donl: &[u8], body: Body<'a>) -> Result<(), AllocError> {

@@ -13,7 +13,8 @@ pub enum WhyRefused {
     WithoutHeader,
     /// Its forbidden bit is set (RFC 6184, 1.3; RFC 7798, 1.1.4; RFC 9328, 1.1.4).
     Forbidden,
-    /// Its type is one of packets (RFC 6184, 5.2; RFC 7798, 4.4; RFC 9328, 4.3).
+    /// Its type is one of packets, or, of H.264, one that no unit has: 0, 30 or 31 (RFC 6184, 5.2;
+    /// RFC 7798, 4.4; RFC 9328, 4.3).
     OfPacketType,
     /// It is longer than a packet, and no fragment has room for its data, or none may go.
     TooLong,

@@ -76,6 +76,7 @@ impl<'a> UnitList<'a> {
 
 /// Appends the units of an access unit in Annex B form that are sent to a list, as slices of it: all,
 /// or all but delimiters and filler data.
+#[inline(always)]
 pub(crate) fn list_sent<'a>(
     codec: Codec,
     delimiters: bool,
