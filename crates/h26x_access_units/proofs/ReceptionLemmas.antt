@@ -6,7 +6,7 @@ use Rattle.h26x_assembler.specs.declared.access_unit.AccessUnit.{AccessUnit}
 use Rattle.std.specs.Prelude.{◌==◌, ◌||◌, ◌&&◌, if◌then◌else◌, nat_lt, nat_le, slice_get}
 use Rattle.h26x_core.specs.Sequence.{distance_ahead, distance_behind, is_late, missing_count}
 use Rattle.std.proofs.lemmas.Bool.Decides.{nat_tests}
-use Rattle.h26x_reorder.specs.Rtp.{RtpBody}
+use Rattle.h26x_reorder.specs.Rtp.{RtpBody, rtp_body}
 use Rattle.h26x_reorder.specs.ReorderBuffer.{BufferState, buffer_state, goes_straight, push_answer, after_push, first_ready, next_packet, without_first_of}
 use Rattle.h26x_reorder.proofs.BufferLemmas.{none_held, held_alone}
 use Rattle.h26x_core.specs.declared.error.PacketError.{PacketError}
@@ -18,7 +18,7 @@ use Rattle.h26x_assembler.specs.AccessUnit.{AccessUnitValue, access_unit_value, 
 use Rattle.h26x_access_units.specs.declared.counts.Counts.{Counts}
 use Rattle.h26x_access_units.specs.declared.decoder.DecoderState.{DecoderState}
 use Rattle.h26x_access_units.specs.declared.framing.Framing.{Framing}
-use Rattle.h26x_access_units.specs.Framing.{fresh_framing, ends_by_content}
+use Rattle.h26x_access_units.specs.Framing.{fresh_framing, ends_by_content, believes}
 use Rattle.h26x_access_units.specs.declared.numbers.NumbersSoFar.{NumbersSoFar}
 use Rattle.h26x_reorder.specs.declared.pushed.Pushed.TheVariants as buffered
 use Rattle.h26x_access_units.specs.declared.passed.PassedNumbers.{PassedNumbers}
@@ -30,9 +30,9 @@ use Rattle.h26x_access_units.specs.declared.pushed.Pushed.TheVariants as pushes
 use Rattle.h26x_access_units.specs.Counts.{counted_due, counted_skip, counted_answer, counted_dropped, counted_framing, counted_unit}
 use Rattle.h26x_access_units.specs.Pushed.{as_pushed}
 use Rattle.h26x_access_units.specs.Numbers.{bears_nothing, numbers_closed, numbers_carrying, after_last, after_missing, first_ended, without_first_ended}
-use Rattle.h26x_access_units.specs.JitterBuffer.{JitterState, reach, is_far, is_ahead, is_full, is_pressed, awaited_number, awaited, due_packet, with_packet, without_due}
+use Rattle.h26x_access_units.specs.JitterBuffer.{JitterState, reach, is_far, is_ahead, is_full, is_pressed, awaited_number, awaited, due_packet, with_packet, without_due, waits_for_none, has_none_due}
 use Rattle.h26x_access_units.specs.ReceivedAccessUnit.{ReceivedAccessUnitValue, received_unit, decoder_with, whole_with}
-use Rattle.h26x_access_units.specs.Reception.{Reception, reception, assembly_after, is_behind_missing, is_in_reach, shown_of, ends_before, is_one_taken, begins_still, counts_answered, after_due, is_repeat, is_too_far, way_of, answer_on, reception_answer, after_reception, has_no_unit, has_bare, has_unit, bare_passed, first_passed, first_passed_of, without_bare, without_bare_of, is_taken_at_once, is_idle, after_finish, ended_if_anew, ended_if_over, unit_given_of, unit_given, without_given_of, without_given, IsDueTaken, IsPushed, IsDrained, none, bare, more, behind, IsEndedBefore, ended_behind_missing, ended_by_content, ended_before, IsDueTakenOrNone, FollowsWhereDue, IsEndedOrFollows, IsStepOrNone, IsStep, ended_alone, taken_alone, ended_and_taken, IsStepInPart, IsNext}
+use Rattle.h26x_access_units.specs.Reception.{Reception, reception, assembly_after, is_behind_missing, is_in_reach, shown_of, ends_before, is_one_taken, begins_still, believed, counts_answered, after_due, is_repeat, is_too_far, way_of, answer_on, reception_answer, after_reception, has_no_unit, has_bare, has_unit, bare_passed, first_passed, first_passed_of, without_bare, without_bare_of, is_taken_at_once, is_idle, after_finish, ended_if_anew, ended_if_over, unit_given_of, unit_given, without_given_of, without_given, IsDueTaken, IsPushed, IsDrained, none, bare, more, behind, IsEndedBefore, ended_behind_missing, ended_by_content, ended_before, IsDueTakenOrNone, FollowsWhereDue, IsEndedOrFollows, IsStepOrNone, IsStep, ended_alone, taken_alone, ended_and_taken, IsStepInPart, IsNext}
 
 -- where nothing is held nothing is ready
 none_ready : (window : ℕ) (due : Option ℕ) → first_ready {A = RtpBody} window due [] ≡ None
@@ -251,29 +251,40 @@ none_waits : (held : List (ℕ × RtpBody)) → (length held == 0) ≡ true → 
 none_waits [] is = refl
 none_waits (p ∷ held) is = absurd (let some : (length (p ∷ held) == 0) ≡ false = grind (arith, nat_tests) in let bad = rw some at is in cc)
 
--- what is known where there is nothing to take and nothing to give out
-idle_parts : (s : Reception) → is_idle s ≡ true → (s.assembler.ended ≡ []) × (s.is_anew ≡ false) × (s.waiting.buffer.held ≡ []) × (s.waiting.is_over ≡ false)
-idle_parts s is =
-    let at = by (has_no_unit s.assembler.ended) s.is_anew (length s.waiting.buffer.held == 0) s.waiting.is_over is in
-    (none_of_units s.assembler.ended at.0, at.1, none_waits s.waiting.buffer.held at.2, at.3)
+-- nor is one due where none waits, or the first isn't
+none_is_due : (now : ℕ) (j : JitterState) → (waits_for_none j || has_none_due now j) ≡ true → (due_packet now j ≡ None) × (j.is_over ≡ false)
+none_is_due now j = by (length j.buffer.held == 0) j.is_over (due_packet now j) (λ is. none_due now j (none_waits j.buffer.held is))
   where
-    by : (a b c d : Bool) → (a && (not b && (c && not d))) ≡ true → (a ≡ true) × (b ≡ false) × (c ≡ true) × (d ≡ false)
-    by true false true false e = (refl, refl, refl, refl)
-    by true false true true e = absurd (let bad = e in cc)
-    by true false false d e = absurd (let bad = e in cc)
-    by true true c d e = absurd (let bad = e in cc)
-    by false b c d e = absurd (let bad = e in cc)
+    by : (empty over : Bool) (due : Option (ℕ × RtpBody)) → (empty ≡ true → due ≡ None) → ((empty && not over) || (not over && not (is_some due))) ≡ true → (due ≡ None) × (over ≡ false)
+    by true false due unheld e = (unheld refl, refl)
+    by false false None unheld e = (refl, refl)
+    by false false (Some p) unheld e = absurd (let bad = e in cc)
+    by true true due unheld e = absurd (let bad = e in cc)
+    by false true due unheld e = absurd (let bad = e in cc)
+
+-- what is known where there is nothing to take and nothing to give out
+idle_parts : (now : ℕ) (s : Reception) → is_idle now s ≡ true → (s.assembler.ended ≡ []) × (s.is_anew ≡ false) × (due_packet now s.waiting ≡ None) × (s.waiting.is_over ≡ false)
+idle_parts now s is =
+    let at = by (has_no_unit s.assembler.ended) s.is_anew (waits_for_none s.waiting || has_none_due now s.waiting) is in
+    let due = none_is_due now s.waiting at.2 in
+    (none_of_units s.assembler.ended at.0, at.1, due.0, due.1)
+  where
+    by : (a b c : Bool) → (a && (not b && c)) ≡ true → (a ≡ true) × (b ≡ false) × (c ≡ true)
+    by true false true e = (refl, refl, refl)
+    by true false false e = absurd (let bad = e in cc)
+    by true true c e = absurd (let bad = e in cc)
+    by false b c e = absurd (let bad = e in cc)
 
 -- then none is given out, and all stays
-pub idle_next : (now : ℕ) (s : Reception) → is_idle s ≡ true → IsNext now s s None
+pub idle_next : (now : ℕ) (s : Reception) → is_idle now s ≡ true → IsNext now s s None
 idle_next now s is =
-    let at = idle_parts s is in
+    let at = idle_parts now s is in
     let over : ended_if_over s ≡ s = not_over s at.3 in
     let whole : without_bare (ended_if_over s) ≡ s = ap without_bare over ∙ ap (without_bare_of s) at.0 in
     record {
       drained = s;
       taken = subst (λ (r : Reception). IsDrained now r s) (sym (ap ended_if_anew (none_bare s at.0) ∙ not_anew s at.1)) none;
-      until = λ _. none_due now s.waiting at.2;
+      until = λ _. at.2;
       unit_is = sym (ap unit_given whole ∙ ap (unit_given_of s) at.0);
       stands = sym (ap without_given whole ∙ ap (without_given_of s) at.0);
     }
@@ -549,6 +560,12 @@ ends_else s framing p = by (bears_nothing p.1.payload) (is_unit_at s.unit p.1.ti
     by false false e f = refl
     by true b e f = absurd (let bad = e in cc)
     by false true e f = absurd (let bad = f in cc)
+
+-- without a marker none is believed
+pub unmarked_believed : (at : Framing) (p : ℕ × RtpBody) → p.1.marker ≡ false → believed at p ≡ p
+unmarked_believed at p is =
+    ap (λ (b : Bool). (p.0, rtp_body p.1.timestamp (believes at b) p.1.payload)) is
+    ∙ ap (λ (b : Bool). (p.0, rtp_body p.1.timestamp b p.1.payload)) (sym is)
 
 -- the counts of a packet that isn't refused, by whether a text was given up where it was taken
 pub counts_as : (s : Assembly) (c : Counts) (at : Framing) (p : ℕ × RtpBody) (marker still unbelieved x y : Bool) (answer : Received) →

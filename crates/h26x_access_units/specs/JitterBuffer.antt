@@ -190,6 +190,10 @@ awaited j = awaited_number j.has_begun j.buffer.due j.buffer.held
 abbrev pub due_packet : ℕ → JitterState → Option (ℕ × RtpBody)
 due_packet now j = if is_pressed now j then slice_get j.buffer.held 0 else next_packet j.buffer
 
+-- whether no packet is due, and the stream hasn't ended
+abbrev pub has_none_due : ℕ → JitterState → Bool
+has_none_due now j = not j.is_over && not (is_some (due_packet now j))
+
 -- arrivals without that of the first of packets
 abbrev pub without_arrival_of : List (ℕ × RtpBody) → List Arrival → List Arrival
 without_arrival_of [] arrivals = arrivals

@@ -111,8 +111,8 @@ open_stamp (PassedPacket p ∷ before) = open_stamp before
 open_stamp (ToldFirst number ∷ before) = open_stamp before
 open_stamp (deed ∷ before) = None
 
--- A packet of a place comes in time where a place is due: half of the numbers before or behind that at
--- most (RFC 3550, 5.1).
+-- A packet of a place comes in time where a place is due: fewer places ahead of that than half of the
+-- numbers, or half of them at most behind it (RFC 3550, 5.1).
 abbrev pub IsInTime : Option ℕ → ℕ → Type 0
 IsInTime None place = Unit {0}
 IsInTime (Some due) place = (place < due + 2 ^ 15) × (due ≤ place + 2 ^ 15)

@@ -1,6 +1,6 @@
 //! What the NAL units of an access unit tell of it, from the first up to its first slice.
 
-ghost use Rattle.std.specs.Prelude.{◌≡◌, false, get_or, IfSome};
+ghost use Rattle.std.specs.Prelude.{◌≡◌, ◌≤◌, false, length, get_or, IfSome};
 ghost use Rattle.std.specs.Option.{option_map};
 ghost use Rattle.h26x_cut.specs.Cutting.{behind_first_code};
 ghost use Rattle.h26x_access_units.specs.Content.{joined_sets, h264_kind, h265_kind, h266_kind, content_kind, with_kind, slice_head, telling_frames, with_frames, content_with_unit, slice_content, told_head, first_unit, content_of};
@@ -106,16 +106,27 @@ pub(crate) fn byte_at(unit: &[u8], place: usize) -> u8
     if place < unit.len() { unit[place] } else { 0 }
 }
 
-/// The eight bytes behind the header of an H.264 slice, 0 behind the end.
+/// The eight bytes behind the header of an H.264 slice, 0 behind the end. Where all are there they are
+/// copied as one.
 #[inline]
 pub(crate) fn slice_head(unit: &[u8]) -> [u8; 8]
     ensures { result ≡ slice_head unit.now }
 {
-    if unit.len() > 8 {
-        let mut head = [0; 8];
-        head.copy_from_slice(&unit[1..9]);
-        return head;
+    if unit.len() <= 8 {
+        return short_head(unit);
     }
+    let mut head = [0; 8];
+    head.copy_from_slice(&unit[1..9]);
+    head
+}
+
+/// So of a slice that has fewer.
+#[cold]
+#[inline(never)]
+fn short_head(unit: &[u8]) -> [u8; 8]
+    requires { length unit.now ≤ 8 }
+    ensures { result ≡ slice_head unit.now }
+{
     [
         byte_at(unit, 1),
         byte_at(unit, 2),

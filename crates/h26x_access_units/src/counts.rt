@@ -1,7 +1,7 @@
 //! What a receiver counts.
 
-ghost use Rattle.std.specs.Prelude.{◌≡◌, ℕ, Option, Ok};
-ghost use Rattle.h26x_access_units.specs.Counts.{no_counts, given_up, counted_answer, counted_refused, counted_skip, counted_due, counted_push, counted_reason, counted_dropped, counted_no_unit, counted_framing, counted_unit};
+ghost use Rattle.std.specs.Prelude.{◌≡◌, ℕ, Option, Ok, if◌then◌else◌};
+ghost use Rattle.h26x_access_units.specs.Counts.{no_counts, count_up, counted_answer, counted_refused, counted_skip, counted_due, counted_push, counted_reason, counted_dropped, counted_no_unit, counted_framing, counted_unit};
 
 use crate::numbers::missing_told;
 use crate::pushed::{NotPushedReason, Pushed};
@@ -45,16 +45,6 @@ pub struct Counts {
     /// Markers of packets that were taken that weren't believed: no slice of the access unit had come,
     /// or the sender marks each slice.
     pub unbelieved: u64,
-}
-
-/// How many open NAL units were given up.
-fn given_up(received: Received) -> u64
-    ensures { result ≡ given_up received }
-{
-    match received {
-        Received::TooLong(_) => 1,
-        Received::InOrder | Received::Gap(_) | Received::Late(_) => 0,
-    }
 }
 
 impl Counts {
@@ -121,19 +111,33 @@ impl Counts {
     }
 
     /// Counts what became of a packet with a payload; where it was taken, whether a text was given up.
+    #[inline(always)]
     fn answer(&mut self, received: Received, text: bool)
         ensures { self.new ≡ counted_answer self.old received text }
     {
         match received {
             Received::Late(_) => self.late = self.late.saturating_add(1),
-            _ => {
-                let missing = u64::from(missing_told(received));
-                self.taken = self.taken.saturating_add(1);
-                self.lost = self.lost.saturating_add(missing);
-                self.units_given_up = self.units_given_up.saturating_add(given_up(received));
-                self.texts_given_up = self.texts_given_up.saturating_add(u64::from(text));
-            }
+            Received::InOrder => self.take(0, 0, text),
+            Received::Gap(missing) => self.take(u64::from(missing), 0, text),
+            Received::TooLong(missing) => self.take(u64::from(missing), 1, text),
         }
+    }
+
+    /// Counts a packet that was taken. It is part of each of its calls, so that nothing is added of one
+    /// in order.
+    #[inline(always)]
+    fn take(&mut self, missing: u64, given_up: u64, text: bool)
+        ensures { self.new ≡ record self.old {
+          taken = count_up self.old.taken 1;
+          lost = count_up self.old.lost missing;
+          units_given_up = count_up self.old.units_given_up given_up;
+          texts_given_up = count_up self.old.texts_given_up (if text then 1 else 0);
+        } }
+    {
+        self.taken = self.taken.saturating_add(1);
+        self.lost = self.lost.saturating_add(missing);
+        self.units_given_up = self.units_given_up.saturating_add(given_up);
+        self.texts_given_up = self.texts_given_up.saturating_add(u64::from(text));
     }
 
     /// Counts what became of a number that bears nothing.
@@ -152,6 +156,7 @@ impl Counts {
 
     /// Counts what became of a packet that was due, and not refused; where it was taken, whether a text
     /// was given up.
+    #[inline(always)]
     pub(crate) fn note(&mut self, packet: &RtpPacket<'_>, received: Received, text: bool)
         ensures { (expected : Option ℕ) →
             self.new ≡ counted_due expected self.old packet.now (Ok received) text }

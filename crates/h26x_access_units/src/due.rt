@@ -28,6 +28,7 @@ pub(crate) fn is_want_of_memory(received: &Result<Received, PacketError>) -> boo
 }
 
 /// Gives a packet that is due to the assembler; one without a payload is skipped.
+#[inline(always)]
 fn take_packet<D: RunDepacketizer>(
     assembler: &mut AccessUnitAssembler<D>,
     packet: &RtpPacket<'_>,
@@ -136,7 +137,7 @@ fn believed<'a>(at: Framing, packet: &RtpPacket<'a>) -> RtpPacket<'a>
 
 /// Notes of a packet that is due and isn't refused what became of it: `at` is what is known with it of
 /// where access units end.
-#[inline]
+#[inline(always)]
 fn note_received(
     framing: &mut Framing,
     numbers: &mut NumbersSoFar,
@@ -200,6 +201,7 @@ fn framing_of<D: RunDepacketizer>(
 /// Gives it a packet that is due, passes over one that it refuses, and notes what became of it: `at` is
 /// what is known with it of where access units end, and it has its marker where that is believed.
 /// Without memory all stays as it was.
+#[inline(always)]
 fn take_noted<D: RunDepacketizer>(
     assembler: &mut AccessUnitAssembler<D>,
     ended: &mut Vec<AccessUnit>,
@@ -331,7 +333,53 @@ pub(crate) fn missing_before(expected: Option<u16>, number: u16) -> u16
     }
 }
 
+/// Takes a packet that is due, and has no marker that could be believed, as [`take_noted`] does. Where
+/// this is compiled nothing asks for the marker any more, and no packet is copied.
+#[inline(always)]
+fn take_unmarked<D: RunDepacketizer>(
+    assembler: &mut AccessUnitAssembler<D>,
+    ended: &mut Vec<AccessUnit>,
+    framing: &mut Framing,
+    numbers: &mut NumbersSoFar,
+    counts: &mut Counts,
+    packet: &RtpPacket<'_>,
+) -> Result<Received, PacketError>
+    requires { packet.now.1.marker ≡ false }
+    ensures answer { let s = assembly_at D.state assembler.old ended.old.items in
+        let at = framing_of s framing.old numbers.old packet.now in
+        IsAnswerTo assembler.old.packets.run_limit s (believed at packet.now) result }
+    ensures after { let s = assembly_at D.state assembler.old ended.old.items in
+        let at = framing_of s framing.old numbers.old packet.now in
+        lacks_memory result ≡ false → assembly_at D.state assembler.new ended.new.items
+        ≡ marker_forgotten (assembly_after assembler.old.packets.run_limit assembler.old.unit_limit s
+        (believed at packet.now) result) }
+    ensures framing { let s = assembly_at D.state assembler.old ended.old.items in
+        let at = framing_of s framing.old numbers.old packet.now in lacks_memory result ≡ false →
+        framing.new ≡ framing_answered framing.old at (believed at packet.now) result }
+    ensures numbers { let s = assembly_at D.state assembler.old ended.old.items in
+        let at = framing_of s framing.old numbers.old packet.now in lacks_memory result ≡ false →
+        numbers.new ≡ numbers_answered s numbers.old at (believed at packet.now) result }
+    ensures counts { let s = assembly_at D.state assembler.old ended.old.items in
+        let at = framing_of s framing.old numbers.old packet.now in lacks_memory result ≡ false →
+        counts.new ≡ counts_answered s counts.old at (believed at packet.now) packet.now.1.marker
+        (is_text_given_up assembler.old.packets.run_limit assembler.old.unit_limit s
+        (believed at packet.now)) result }
+    ensures limit { assembler.new.packets.run_limit ≡ assembler.old.packets.run_limit }
+    ensures unit_limit { assembler.new.unit_limit ≡ assembler.old.unit_limit }
+    ensures kept { lacks_memory result ≡ true → assembly_at D.state assembler.new ended.new.items
+        ≡ assembly_at D.state assembler.old ended.old.items }
+    ensures kept_framing { lacks_memory result ≡ true → framing.new ≡ framing.old }
+    ensures kept_numbers { lacks_memory result ≡ true → numbers.new ≡ numbers.old }
+    ensures kept_counts { lacks_memory result ≡ true → counts.new ≡ counts.old }
+{
+    let at = framing_of(assembler, *framing, numbers, packet);
+    take_noted(
+        assembler, ended, framing, numbers, counts, at, packet, false,
+    )
+}
+
 /// Takes a packet that is due as [`take_noted`] does, with its marker where that is believed.
+#[inline(always)]
 fn take_seen<D: RunDepacketizer>(
     assembler: &mut AccessUnitAssembler<D>,
     ended: &mut Vec<AccessUnit>,
@@ -367,6 +415,9 @@ fn take_seen<D: RunDepacketizer>(
     ensures kept_numbers { lacks_memory result ≡ true → numbers.new ≡ numbers.old }
     ensures kept_counts { lacks_memory result ≡ true → counts.new ≡ counts.old }
 {
+    if !packet.marker {
+        return take_unmarked(assembler, ended, framing, numbers, counts, packet);
+    }
     let at = framing_of(assembler, *framing, numbers, packet);
     let taken = believed(at, packet);
     take_noted(

@@ -8,7 +8,7 @@ ghost use Rattle.h26x_reorder.specs.declared.pushed.Pushed.TheVariants as buffer
 ghost use Rattle.h26x_access_units.specs.Arrival.{deadline_of, has_waited};
 ghost use Rattle.h26x_access_units.specs.Pushed.{IsNotPushedReason, not_pushed_reason};
 ghost use Rattle.h26x_access_units.specs.Missing.{numbers_from, missing_numbers, AreExactlyMissing};
-ghost use Rattle.h26x_access_units.specs.JitterBuffer.{with_packet, far_back, reach, is_far, is_ahead, is_near, with_config, with_held_limit, fresh_jitter, held_bytes, is_past_limit, is_full, is_pressed, jitter_answer, after_jitter, has_room_for, with_two, with_stray, longest_wait, awaited, may_tell_first, begun_jitter, due_packet, without_due, waits_for_none};
+ghost use Rattle.h26x_access_units.specs.JitterBuffer.{with_packet, far_back, reach, is_far, is_ahead, is_near, with_config, with_held_limit, fresh_jitter, held_bytes, is_past_limit, is_full, is_pressed, jitter_answer, after_jitter, has_room_for, with_two, with_stray, longest_wait, awaited, may_tell_first, begun_jitter, due_packet, without_due, waits_for_none, has_none_due};
 
 use crate::arrival::{Arrival, from_at, let_go};
 use crate::config::AccessUnitConfig;
@@ -537,6 +537,14 @@ impl JitterBuffer {
         ensures { result ≡ waits_for_none self.now }
     {
         self.is_empty() && !self.is_over
+    }
+
+    /// Whether no packet is due at this tick, and the stream hasn't ended.
+    #[inline]
+    pub(crate) fn has_none_due(&self, now: u32) -> bool
+        ensures { result ≡ has_none_due now self.now }
+    {
+        !self.is_over && self.first_due(now).is_none()
     }
 
     /// Whether the stream has ended.

@@ -4,6 +4,7 @@
 #![tactic(auto)]
 
 mod account_cases;
+mod anew;
 mod arrival;
 mod bits;
 mod cases;

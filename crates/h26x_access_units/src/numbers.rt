@@ -149,6 +149,7 @@ impl NumbersSoFar {
     }
 
     /// A packet was taken, and so many are missing before it.
+    #[inline(always)]
     pub(crate) fn take(&mut self, packet: &RtpPacket<'_>, missing: u16)
         ensures { self.new ≡ after_packet self.old packet.now missing }
     {
@@ -168,6 +169,7 @@ impl NumbersSoFar {
     }
 
     /// Notes what became of a packet that was due, and not refused.
+    #[inline(always)]
     pub(crate) fn note(&mut self, packet: &RtpPacket<'_>, received: Received)
         ensures { (expected : Option ℕ) →
             self.new ≡ numbers_after expected self.old packet.now (Ok received) }

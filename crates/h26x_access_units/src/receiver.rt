@@ -1,6 +1,6 @@
 //! A receiver that takes packets as they come and gives out access units.
 
-ghost use Rattle.std.specs.Prelude.{◌≡◌, ◌^◌, ◌<◌, ◌≤◌, Option, true, false, not, ◌&&◌, [], None, Some, Ok, Err, IfOk, OnOk, OnErr, IfErr, length, vec_len, slice_index_or, remove};
+ghost use Rattle.std.specs.Prelude.{◌≡◌, ◌^◌, ◌<◌, ◌≤◌, Option, true, false, not, ◌&&◌, [], None, Some, Ok, Err, IfOk, OnOk, OnErr, IfErr, length};
 ghost use Rattle.std.specs.Option.{option_map};
 ghost use Rattle.h26x_reorder.specs.Rtp.{rtp_body};
 ghost use Rattle.h26x_reorder.specs.ReorderBuffer.{numbered_packet, push_answer};
@@ -9,9 +9,10 @@ ghost use Rattle.h26x_access_units.specs.Pushed.{IsNotPushedReason, is_kept, not
 ghost use Rattle.h26x_access_units.specs.JitterBuffer.{may_tell_first};
 ghost use Rattle.h26x_assembler.specs.Assembler.{assembly_at};
 ghost use Rattle.h26x_access_units.specs.ReceivedAccessUnit.{received_unit_value};
-ghost use Rattle.h26x_access_units.specs.Reception.{fresh_reception, begun_reception, is_behind_missing, ends_before, reception_answer, has_no_unit, has_bare, has_unit, first_passed, without_bare, ended_if_anew, ended_if_over, restarted, unit_given, without_given, is_taken_at_once, is_idle, IsDrained, after_reception, anew_of, way_of, IsPushAnswer, IsPutAside, refused_reception, IsTakenAsDue, IsDueTakenOrNone, FollowsWhereDue, IsEndedOrFollows, IsStepOrNone, IsStepInPart, NoneIsDueUnlessEnded, IsPushedIfOk, ended_reception, IsDrainedInPart, GivesNext, nack_numbers, AreExactNacks, next_deadline, settings, with_settings};
+ghost use Rattle.h26x_access_units.specs.Reception.{fresh_reception, begun_reception, is_behind_missing, ends_before, reception_answer, has_no_unit, has_bare, has_unit, first_passed, without_bare, ended_if_anew, ended_if_over, restarted, unit_given, without_given, is_taken_at_once, is_idle, IsDrained, after_reception, way_of, IsPushAnswer, IsPutAside, refused_reception, IsTakenAsDue, IsDueTakenOrNone, FollowsWhereDue, IsEndedOrFollows, IsStepOrNone, IsStepInPart, NoneIsDueUnlessEnded, IsPushedIfOk, ended_reception, IsDrainedInPart, GivesNext, nack_numbers, AreExactNacks, next_deadline, settings, with_settings};
 ghost use Rattle.h26x_access_units.specs.Limits.{StaysWithinLimits};
 
+use crate::anew::anew_with;
 use crate::config::AccessUnitConfig;
 use crate::counts::Counts;
 use crate::decoder::DecoderState;
@@ -21,14 +22,14 @@ use crate::jitter::JitterBuffer;
 use crate::numbers::NumbersSoFar;
 use crate::passed::PassedNumbers;
 use crate::pushed::{NotPushed, NotPushedReason, Pushed};
-use crate::unit::{self, ReceivedAccessUnit};
+use crate::unit::{self, ReceivedAccessUnit, remove_first};
 use crate::way::Way;
 use h26x_assembler::{AccessUnit, AccessUnitAssembler};
 use h26x_core::PacketError;
 use h26x_depacketizer::RunDepacketizer;
 use h26x_receiver::SequencedDepacketizer;
 use h26x_reorder::{HeldPacket, RtpPacket};
-use std::alloc::{AllocError, Global};
+use std::alloc::Global;
 
 /// Takes RTP packets as they come and gives out access units.
 #[derive(Debug, Drop)]
@@ -44,42 +45,6 @@ pub struct AccessUnitReceiver<D: RunDepacketizer> {
     numbers: NumbersSoFar,
     decoder: DecoderState,
     counts: Counts,
-}
-
-/// What waits of a stream that begins anew with these two packets: both, whatever the limit.
-fn anew_with(
-    alloc: Global,
-    now: u32,
-    config: AccessUnitConfig,
-    stray: &RtpPacket<'_>,
-    packet: &RtpPacket<'_>,
-) -> Result<JitterBuffer, AllocError>
-    requires some { 0 < config.window }
-    requires half { config.window ≤ 2 ^ 14 }
-    ensures { IfOk result (λ waiting. waiting ≡ anew_of now config (Some stray.now) packet.now) }
-{
-    let unlimited = AccessUnitConfig {
-        held_limit: usize::MAX,
-        ..config
-    };
-    let mut waiting = JitterBuffer::new(alloc, unlimited);
-    let _ = waiting.push(now, stray)?;
-    let _ = waiting.push(now, packet)?;
-    waiting.set_held_limit(config.held_limit);
-    Ok(waiting)
-}
-
-/// Removes the first of access units: where it is the only one nothing moves.
-#[inline]
-fn remove_first(units: &mut Vec<AccessUnit>) -> AccessUnit
-    requires { 0 < vec_len units.old }
-    ensures value { result ≡ slice_index_or units.old.items 0 result }
-    ensures items { units.new.items ≡ remove units.old.items 0 }
-{
-    if units.len() == 1 {
-        return units.pop().unwrap();
-    }
-    units.remove(0)
 }
 
 /// What a receiver is to contracts.
@@ -710,18 +675,20 @@ impl<D: RunDepacketizer> AccessUnitReceiver<D> {
         if self.has_unit() {
             return Ok(self.give());
         }
-        if self.is_idle() {
+        if self.is_idle(now) {
             return Ok(None);
         }
         self.next_due(now)
     }
 
-    /// Whether there is nothing to take or to give out.
+    /// Whether there is nothing to take at this tick, or to give out: of packets that wait only the
+    /// first is looked at.
     #[inline]
-    fn is_idle(&self) -> bool
-        ensures { let r = ⟦<Self as Receives>⟧.reception in result ≡ is_idle (r self.now) }
+    fn is_idle(&self, now: u32) -> bool
+        ensures { let r = ⟦<Self as Receives>⟧.reception in result ≡ is_idle now (r self.now) }
     {
-        !self.has_ended() && !self.is_anew && self.waiting.waits_for_none()
+        let none_is_left = !self.has_ended() && !self.is_anew;
+        none_is_left && (self.waiting.waits_for_none() || self.waiting.has_none_due(now))
     }
 
     /// Whether the first access unit that ended has bytes, so that it is the next.

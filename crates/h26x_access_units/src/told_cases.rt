@@ -101,8 +101,8 @@ pub fn what_deeds_tell()
         are_told_first (DroppedAll ∷ ToldFirst 7 ∷ TookPacket p ∷ []) ≡ true }
 {}
 
-/// A packet comes in time that is at most 2^15 places before or behind the one that is due: that behind
-/// the furthest that was taken.
+/// A packet comes in time that is fewer than 2^15 places ahead of the one that is due, or 2^15 at most
+/// behind it: of that behind the furthest that was taken.
 pub fn packets_that_come_in_time()
     ensures first { IsInTime None 7 }
     ensures ahead { IsInTime (Some 40000) 72767 }

@@ -1,6 +1,6 @@
 //! Access units as a receiver gives them out.
 
-ghost use Rattle.std.specs.Prelude.{◌≡◌};
+ghost use Rattle.std.specs.Prelude.{◌≡◌, ◌<◌, vec_len, slice_index_or, remove};
 ghost use Rattle.h26x_assembler.specs.AccessUnit.{access_unit_value};
 ghost use Rattle.h26x_access_units.specs.ReceivedAccessUnit.{received_unit_value, received_unit, decoder_with, told_of};
 
@@ -43,6 +43,19 @@ pub struct ReceivedAccessUnit {
     pub last: u16,
     /// How many numbers are missing between the access unit before and the end of this one.
     pub missing: u32,
+}
+
+/// Removes the first of access units: where it is the only one nothing moves.
+#[inline]
+pub(crate) fn remove_first(units: &mut Vec<AccessUnit>) -> AccessUnit
+    requires { 0 < vec_len units.old }
+    ensures value { result ≡ slice_index_or units.old.items 0 result }
+    ensures items { units.new.items ≡ remove units.old.items 0 }
+{
+    if units.len() == 1 {
+        return units.pop().unwrap();
+    }
+    units.remove(0)
 }
 
 /// What is known of a decoder with an access unit that isn't given out, since it has no bytes.

@@ -61,7 +61,7 @@ impl AccessUnitSoFar {
     }
 
     /// Takes a packet with its timestamp. A marker does not end it yet.
-    #[inline]
+    #[inline(always)]
     fn take<D: RunDepacketizer>(
         &mut self,
         packets: &mut SequencedDepacketizer<D>,
@@ -107,7 +107,7 @@ impl AccessUnitSoFar {
 
     /// Whether a unit lacks its end or its start by a packet that was taken, before which a run was
     /// open or not and the text had so many bytes. A run that is longer than the packet isn't its own.
-    #[inline]
+    #[inline(always)]
     fn is_broken<D: RunDepacketizer>(
         &self,
         depacketizer: &D,
@@ -288,7 +288,7 @@ impl OpenAccessUnit {
     }
 
     /// Takes a packet without a marker into the one that is open, where it stands.
-    #[inline]
+    #[inline(always)]
     pub(crate) fn go_on<D: RunDepacketizer>(
         &mut self,
         packets: &mut SequencedDepacketizer<D>,

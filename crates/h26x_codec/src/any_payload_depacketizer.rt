@@ -194,6 +194,7 @@ impl AnyPayloadDepacketizer {
     }
 
     /// Takes a packet that this codec's reader reads, where the run that is open stands in the text.
+    #[inline(always)]
     fn take_as_in_text<C: PacketReader>(
         &self,
         codec: C,
@@ -320,6 +321,7 @@ impl RunDepacketizer for AnyPayloadDepacketizer {
         self.depacketize_into(packet, out, codec_extra)
     }
 
+    #[inline(always)]
     fn take_in_text(
         &mut self,
         rule: RunRule,

@@ -1,5 +1,6 @@
 // Made from crates/h26x_access_units/src/lib.rt by tools/to-rust.
 
+mod anew;
 mod arrival;
 mod bits;
 mod config;

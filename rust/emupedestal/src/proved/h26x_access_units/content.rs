@@ -99,14 +99,22 @@ pub(crate) fn byte_at(unit: &[u8], place: usize) -> u8 {
     if place < unit.len() { unit[place] } else { 0 }
 }
 
-/// The eight bytes behind the header of an H.264 slice, 0 behind the end.
+/// The eight bytes behind the header of an H.264 slice, 0 behind the end. Where all are there they are
+/// copied as one.
 #[inline]
 pub(crate) fn slice_head(unit: &[u8]) -> [u8; 8] {
-    if unit.len() > 8 {
-        let mut head = [0; 8];
-        head.copy_from_slice(&unit[1..9]);
-        return head;
+    if unit.len() <= 8 {
+        return short_head(unit);
     }
+    let mut head = [0; 8];
+    head.copy_from_slice(&unit[1..9]);
+    head
+}
+
+/// So of a slice that has fewer.
+#[cold]
+#[inline(never)]
+fn short_head(unit: &[u8]) -> [u8; 8] {
     [
         byte_at(unit, 1),
         byte_at(unit, 2),

@@ -46,14 +46,6 @@ pub struct Counts {
     pub unbelieved: u64,
 }
 
-/// How many open NAL units were given up.
-fn given_up(received: Received) -> u64 {
-    match received {
-        Received::TooLong(_) => 1,
-        Received::InOrder | Received::Gap(_) | Received::Late(_) => 0,
-    }
-}
-
 impl Counts {
     /// Nothing was counted.
     pub(crate) fn none() -> Self {
@@ -108,17 +100,24 @@ impl Counts {
     }
 
     /// Counts what became of a packet with a payload; where it was taken, whether a text was given up.
+    #[inline(always)]
     fn answer(&mut self, received: Received, text: bool) {
         match received {
             Received::Late(_) => self.late = self.late.saturating_add(1),
-            _ => {
-                let missing = u64::from(missing_told(received));
-                self.taken = self.taken.saturating_add(1);
-                self.lost = self.lost.saturating_add(missing);
-                self.units_given_up = self.units_given_up.saturating_add(given_up(received));
-                self.texts_given_up = self.texts_given_up.saturating_add(u64::from(text));
-            }
+            Received::InOrder => self.take(0, 0, text),
+            Received::Gap(missing) => self.take(u64::from(missing), 0, text),
+            Received::TooLong(missing) => self.take(u64::from(missing), 1, text),
         }
+    }
+
+    /// Counts a packet that was taken. It is part of each of its calls, so that nothing is added of one
+    /// in order.
+    #[inline(always)]
+    fn take(&mut self, missing: u64, given_up: u64, text: bool) {
+        self.taken = self.taken.saturating_add(1);
+        self.lost = self.lost.saturating_add(missing);
+        self.units_given_up = self.units_given_up.saturating_add(given_up);
+        self.texts_given_up = self.texts_given_up.saturating_add(u64::from(text));
     }
 
     /// Counts what became of a number that bears nothing.
@@ -135,6 +134,7 @@ impl Counts {
 
     /// Counts what became of a packet that was due, and not refused; where it was taken, whether a text
     /// was given up.
+    #[inline(always)]
     pub(crate) fn note(&mut self, packet: &RtpPacket<'_>, received: Received, text: bool) {
         if packet.payload.is_empty() {
             self.skip(received);

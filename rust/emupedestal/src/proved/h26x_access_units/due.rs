@@ -22,6 +22,7 @@ pub(crate) fn is_want_of_memory(received: &Result<Received, PacketError>) -> boo
 }
 
 /// Gives a packet that is due to the assembler; one without a payload is skipped.
+#[inline(always)]
 fn take_packet<D: RunDepacketizer>(
     assembler: &mut AccessUnitAssembler<D>,
     packet: &RtpPacket<'_>,
@@ -92,7 +93,7 @@ fn believed<'a>(at: Framing, packet: &RtpPacket<'a>) -> RtpPacket<'a> {
 
 /// Notes of a packet that is due and isn't refused what became of it: `at` is what is known with it of
 /// where access units end.
-#[inline]
+#[inline(always)]
 fn note_received(
     framing: &mut Framing,
     numbers: &mut NumbersSoFar,
@@ -145,6 +146,7 @@ fn framing_of<D: RunDepacketizer>(
 /// Gives it a packet that is due, passes over one that it refuses, and notes what became of it: `at` is
 /// what is known with it of where access units end, and it has its marker where that is believed.
 /// Without memory all stays as it was.
+#[inline(always)]
 fn take_noted<D: RunDepacketizer>(
     assembler: &mut AccessUnitAssembler<D>,
     ended: &mut Vec<AccessUnit>,
@@ -242,7 +244,25 @@ pub(crate) fn missing_before(expected: Option<u16>, number: u16) -> u16 {
     }
 }
 
+/// Takes a packet that is due, and has no marker that could be believed, as [`take_noted`] does. Where
+/// this is compiled nothing asks for the marker any more, and no packet is copied.
+#[inline(always)]
+fn take_unmarked<D: RunDepacketizer>(
+    assembler: &mut AccessUnitAssembler<D>,
+    ended: &mut Vec<AccessUnit>,
+    framing: &mut Framing,
+    numbers: &mut NumbersSoFar,
+    counts: &mut Counts,
+    packet: &RtpPacket<'_>,
+) -> Result<Received, PacketError> {
+    let at = framing_of(assembler, *framing, numbers, packet);
+    take_noted(
+        assembler, ended, framing, numbers, counts, at, packet, false,
+    )
+}
+
 /// Takes a packet that is due as [`take_noted`] does, with its marker where that is believed.
+#[inline(always)]
 fn take_seen<D: RunDepacketizer>(
     assembler: &mut AccessUnitAssembler<D>,
     ended: &mut Vec<AccessUnit>,
@@ -251,6 +271,9 @@ fn take_seen<D: RunDepacketizer>(
     counts: &mut Counts,
     packet: &RtpPacket<'_>,
 ) -> Result<Received, PacketError> {
+    if !packet.marker {
+        return take_unmarked(assembler, ended, framing, numbers, counts, packet);
+    }
     let at = framing_of(assembler, *framing, numbers, packet);
     let taken = believed(at, packet);
     take_noted(

@@ -415,6 +415,12 @@ impl JitterBuffer {
         self.is_empty() && !self.is_over
     }
 
+    /// Whether no packet is due at this tick, and the stream hasn't ended.
+    #[inline]
+    pub(crate) fn has_none_due(&self, now: u32) -> bool {
+        !self.is_over && self.first_due(now).is_none()
+    }
+
     /// Whether the stream has ended.
     pub fn is_over(&self) -> bool {
         self.is_over

@@ -132,6 +132,7 @@ impl NumbersSoFar {
     }
 
     /// A packet was taken, and so many are missing before it.
+    #[inline(always)]
     pub(crate) fn take(&mut self, packet: &RtpPacket<'_>, missing: u16) {
         let missing = self.skipped_gap.saturating_add(u32::from(missing));
         self.skipped_gap = 0;
@@ -149,6 +150,7 @@ impl NumbersSoFar {
     }
 
     /// Notes what became of a packet that was due, and not refused.
+    #[inline(always)]
     pub(crate) fn note(&mut self, packet: &RtpPacket<'_>, received: Received) {
         if packet.payload.is_empty() {
             self.skip(u32::from(missing_told(received)));

@@ -2,6 +2,7 @@
 
 //! A receiver that takes packets as they come and gives out access units.
 
+use crate::proved::h26x_access_units::anew::anew_with;
 use crate::proved::h26x_access_units::config::AccessUnitConfig;
 use crate::proved::h26x_access_units::counts::Counts;
 use crate::proved::h26x_access_units::decoder::DecoderState;
@@ -13,14 +14,13 @@ use crate::proved::h26x_access_units::jitter::JitterBuffer;
 use crate::proved::h26x_access_units::numbers::NumbersSoFar;
 use crate::proved::h26x_access_units::passed::PassedNumbers;
 use crate::proved::h26x_access_units::pushed::{NotPushed, NotPushedReason, Pushed};
-use crate::proved::h26x_access_units::unit::{self, ReceivedAccessUnit};
+use crate::proved::h26x_access_units::unit::{self, ReceivedAccessUnit, remove_first};
 use crate::proved::h26x_access_units::way::Way;
 use crate::proved::h26x_assembler::{AccessUnit, AccessUnitAssembler};
 use crate::proved::h26x_core::PacketError;
 use crate::proved::h26x_depacketizer::RunDepacketizer;
 use crate::proved::h26x_receiver::SequencedDepacketizer;
 use crate::proved::h26x_reorder::{HeldPacket, RtpPacket};
-use crate::support::AllocError;
 use crate::support::TryVec;
 use alloc::vec::Vec;
 
@@ -37,33 +37,6 @@ pub struct AccessUnitReceiver<D: RunDepacketizer> {
     numbers: NumbersSoFar,
     decoder: DecoderState,
     counts: Counts,
-}
-
-/// What waits of a stream that begins anew with these two packets: both, whatever the limit.
-fn anew_with(
-    now: u32,
-    config: AccessUnitConfig,
-    stray: &RtpPacket<'_>,
-    packet: &RtpPacket<'_>,
-) -> Result<JitterBuffer, AllocError> {
-    let unlimited = AccessUnitConfig {
-        held_limit: usize::MAX,
-        ..config
-    };
-    let mut waiting = JitterBuffer::new(unlimited);
-    let _ = waiting.try_push(now, stray)?;
-    let _ = waiting.try_push(now, packet)?;
-    waiting.set_held_limit(config.held_limit);
-    Ok(waiting)
-}
-
-/// Removes the first of access units: where it is the only one nothing moves.
-#[inline]
-fn remove_first(units: &mut Vec<AccessUnit>) -> AccessUnit {
-    if units.len() == 1 {
-        return units.pop().unwrap();
-    }
-    units.remove(0)
 }
 
 /// What a receiver is to contracts.
@@ -450,16 +423,18 @@ impl<D: RunDepacketizer> AccessUnitReceiver<D> {
         if self.has_unit() {
             return Ok(self.give());
         }
-        if self.is_idle() {
+        if self.is_idle(now) {
             return Ok(None);
         }
         self.next_due(now)
     }
 
-    /// Whether there is nothing to take or to give out.
+    /// Whether there is nothing to take at this tick, or to give out: of packets that wait only the
+    /// first is looked at.
     #[inline]
-    fn is_idle(&self) -> bool {
-        !self.has_ended() && !self.is_anew && self.waiting.waits_for_none()
+    fn is_idle(&self, now: u32) -> bool {
+        let none_is_left = !self.has_ended() && !self.is_anew;
+        none_is_left && (self.waiting.waits_for_none() || self.waiting.has_none_due(now))
     }
 
     /// Whether the first access unit that ended has bytes, so that it is the next.

@@ -63,6 +63,15 @@ impl core::fmt::Debug for ReceivedAccessUnit {
     }
 }
 
+/// Removes the first of access units: where it is the only one nothing moves.
+#[inline]
+pub(crate) fn remove_first(units: &mut Vec<AccessUnit>) -> AccessUnit {
+    if units.len() == 1 {
+        return units.pop().unwrap();
+    }
+    units.remove(0)
+}
+
 /// What is known of a decoder with an access unit that isn't given out, since it has no bytes.
 pub(crate) fn pass(
     decoder: &mut DecoderState,

@@ -12,6 +12,7 @@ use crate::proved::h26x_reorder::RtpPacket;
 use alloc::vec::Vec;
 
 /// Takes a packet into the access unit that was open.
+#[inline(always)]
 fn go_on<D: RunDepacketizer>(
     packets: &mut SequencedDepacketizer<D>,
     place: &mut OpenAccessUnit,
@@ -55,6 +56,7 @@ fn begin<D: RunDepacketizer>(
 }
 
 /// Takes a packet, and appends the access units that it ends.
+#[inline(always)]
 fn take<D: RunDepacketizer>(
     packets: &mut SequencedDepacketizer<D>,
     place: &mut OpenAccessUnit,
@@ -112,6 +114,7 @@ impl<D: RunDepacketizer> AccessUnitAssembler<D> {
     /// The open run is within its limit after each packet, and so is the text of the access unit that
     /// is open: where it is longer, as where a peer sends neither a marker nor another timestamp, it
     /// is given up (`is_text_given_up`), and what follows of that access unit is not told to be whole.
+    #[inline(always)]
     pub fn receive(
         &mut self,
         packet: &RtpPacket<'_>,

@@ -164,6 +164,7 @@ impl<D: RunDepacketizer> SequencedDepacketizer<D> {
     /// Takes a packet as `receive` does, where the run that is open stands in the text that is written
     /// to, so that the data of its fragments are copied once. The depacketizer's own run is neither
     /// used nor changed. A run that stays open may stand inside, or is put aside.
+    #[inline(always)]
     pub fn receive_in_text(
         &mut self,
         sequence: u16,

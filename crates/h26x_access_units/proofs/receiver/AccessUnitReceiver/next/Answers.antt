@@ -10,7 +10,7 @@ pub returns-then-is_idle-clause-next : goal.returns-then-is_idle-clause-next
 returns-then-is_idle-clause-next g c =
     let old = c.args.self.now in
     let s = reception old.waiting (option_map numbered_packet old.stray) old.is_anew old.passed (assembly_at g.D.RunDepacketizer.state old.assembler old.ended.items) old.framing old.numbers old.decoder old.counts old.assembler.packets.run_limit old.assembler.unit_limit in
-    let idle : is_idle s ≡ true = search rules in
+    let idle : is_idle c.args.now s ≡ true = search rules in
     idle_next c.args.now s idle
 
 pub returns-then-has_unit-clause-next : goal.returns-then-has_unit-clause-next
