@@ -9,7 +9,7 @@ use Rattle.h26x_handles.specs.Endpoint.{SequencedEndpoint}
 use Rattle.h26x_handles.specs.declared.receive_all.ReceivedTold.{ReceivedTold}
 use Rattle.h26x_handles.specs.declared.receive_all.TakenTo.{TakenTo}
 use Rattle.h26x_handles.specs.ReceiveAll.{IsReceivedInto}
-use Rattle.h26x_handles.specs.ReceiveAll.{AreReceived, all_received, lacks_memory, lacks_room, received_and, AreToldReceived}
+use Rattle.h26x_handles.specs.ReceiveAll.{AreReceivedInTurn, all_received, lacks_memory, lacks_room, received_and, AreToldReceived}
 use Rattle.h26x_handles.proofs.PayloadLemmas.{none_told, told_more, at_place}
 
 -- what stands behind a place, and a buffer with other bytes there
@@ -35,8 +35,8 @@ pub record AreReceivedSoFar (packets : List (ℕ × List ℕ)) (it at : Sequence
   pub tells : told ≡ with_first before room
   pub within : written ≤ length to
   pub goes_on : (others : List ReceivedTold) (new : SequencedEndpoint) (rest : List ℕ) (code taken more : ℕ) →
-      AreReceived (drop place packets) at (drop written to) others new rest code taken more →
-      AreReceived packets it first_to (before ++ others) new (take written to ++ rest) code (place + taken) (written + more)
+      AreReceivedInTurn (drop place packets) at (drop written to) others new rest code taken more →
+      AreReceivedInTurn packets it first_to (before ++ others) new (take written to ++ rest) code (place + taken) (written + more)
 
 pub none_received : (packets : List (ℕ × List ℕ)) (it : SequencedEndpoint) (to : List ℕ) (room : List ReceivedTold) → AreReceivedSoFar packets it it to to room room 0 0
 none_received packets it to room = record {
@@ -45,8 +45,8 @@ none_received packets it to room = record {
   tells = none_told room;
   within = omega arith;
   goes_on = λ others new rest code taken more so.
-      subst (λ k. AreReceived packets it to others new rest code k (0 + more)) (omega arith)
-      (subst (λ k. AreReceived packets it to others new rest code taken k) (omega arith) so);
+      subst (λ k. AreReceivedInTurn packets it to others new rest code k (0 + more)) (omega arith)
+      (subst (λ k. AreReceivedInTurn packets it to others new rest code taken k) (omega arith) so);
 }
 
 -- one more, which had room
@@ -62,20 +62,20 @@ received_more packets it at next first_to to next_to room told place written p o
       tells = told_more so.before room told place one so.count so.tells;
       within = let l = length-append (take written to) next_to in let m = length-take-le written to within in omega (arith, l, m, fits, long);
       goes_on = λ others new rest code taken more later.
-          let behind : AreReceived (drop (place + 1) packets) next (drop one.written next_to) others new rest code taken more =
-          subst (λ l. AreReceived (drop (place + 1) packets) next l others new rest code taken more) (drop_behind to next_to written one.written within) later in
-          let step : AreReceived (p ∷ drop (place + 1) packets) at (drop written to) (one ∷ others) new (take one.written next_to ++ rest) code (1 + taken) (one.written + more) =
+          let behind : AreReceivedInTurn (drop (place + 1) packets) next (drop one.written next_to) others new rest code taken more =
+          subst (λ l. AreReceivedInTurn (drop (place + 1) packets) next l others new rest code taken more) (drop_behind to next_to written one.written within) later in
+          let step : AreReceivedInTurn (p ∷ drop (place + 1) packets) at (drop written to) (one ∷ others) new (take one.written next_to ++ rest) code (1 + taken) (one.written + more) =
           received_and received fine fits behind in
-          let here : AreReceived (drop place packets) at (drop written to) (one ∷ others) new (take one.written next_to ++ rest) code (1 + taken) (one.written + more) =
-          subst (λ l. AreReceived l at (drop written to) (one ∷ others) new (take one.written next_to ++ rest) code (1 + taken) (one.written + more)) (at_place packets place p below is) step in
+          let here : AreReceivedInTurn (drop place packets) at (drop written to) (one ∷ others) new (take one.written next_to ++ rest) code (1 + taken) (one.written + more) =
+          subst (λ l. AreReceivedInTurn l at (drop written to) (one ∷ others) new (take one.written next_to ++ rest) code (1 + taken) (one.written + more)) (at_place packets place p below is) step in
           let whole = so.goes_on (one ∷ others) new (take one.written next_to ++ rest) code (1 + taken) (one.written + more) here in
           let text : take written to ++ (take one.written next_to ++ rest) ≡ take (written + one.written) (take written to ++ next_to) ++ rest =
           sym (append_assoc (take written to) (take one.written next_to) rest) ∙ ap (λ l. l ++ rest) (sym (take_behind to next_to written one.written within)) in
-          subst (λ l. AreReceived packets it first_to l new (take (written + one.written) (take written to ++ next_to) ++ rest) code (place + 1 + taken) (written + one.written + more))
+          subst (λ l. AreReceivedInTurn packets it first_to l new (take (written + one.written) (take written to ++ next_to) ++ rest) code (place + 1 + taken) (written + one.written + more))
           (sym (append_assoc so.before (one ∷ []) others))
-          (subst (λ l. AreReceived packets it first_to (so.before ++ one ∷ others) new l code (place + 1 + taken) (written + one.written + more)) text
-          (subst (λ k. AreReceived packets it first_to (so.before ++ one ∷ others) new (take written to ++ (take one.written next_to ++ rest)) code k (written + one.written + more)) (omega arith)
-          (subst (λ k. AreReceived packets it first_to (so.before ++ one ∷ others) new (take written to ++ (take one.written next_to ++ rest)) code (place + (1 + taken)) k) (omega arith) whole)));
+          (subst (λ l. AreReceivedInTurn packets it first_to (so.before ++ one ∷ others) new l code (place + 1 + taken) (written + one.written + more)) text
+          (subst (λ k. AreReceivedInTurn packets it first_to (so.before ++ one ∷ others) new (take written to ++ (take one.written next_to ++ rest)) code k (written + one.written + more)) (omega arith)
+          (subst (λ k. AreReceivedInTurn packets it first_to (so.before ++ one ∷ others) new (take written to ++ (take one.written next_to ++ rest)) code (place + (1 + taken)) k) (omega arith) whole)));
     }
 
 -- at the end all are
@@ -83,14 +83,14 @@ pub received_to_end : (packets : List (ℕ × List ℕ)) (it at : SequencedEndpo
     AreReceivedSoFar packets it at first_to to room told place written → AreToldReceived packets it first_to room at to told (record { code = ok; taken = place; written = written })
 received_to_end packets it at first_to to room told place written past so =
     let none : drop place packets ≡ [] = drop_of_length-le packets past in
-    let end : AreReceived [] at (drop written to) [] at (drop written to) ok 0 0 = all_received in
-    let here : AreReceived (drop place packets) at (drop written to) [] at (drop written to) ok 0 0 = subst (λ l. AreReceived l at (drop written to) [] at (drop written to) ok 0 0) (sym none) end in
+    let end : AreReceivedInTurn [] at (drop written to) [] at (drop written to) ok 0 0 = all_received in
+    let here : AreReceivedInTurn (drop place packets) at (drop written to) [] at (drop written to) ok 0 0 = subst (λ l. AreReceivedInTurn l at (drop written to) [] at (drop written to) ok 0 0) (sym none) end in
     record {
       all_told = so.before;
-      received = subst (λ l. AreReceived packets it first_to l at to ok place written) (append-nil so.before)
-          (subst (λ l. AreReceived packets it first_to (so.before ++ []) at l ok place written) (take-append-drop written to)
-          (subst (λ k. AreReceived packets it first_to (so.before ++ []) at (take written to ++ drop written to) ok k written) (omega arith)
-          (subst (λ k. AreReceived packets it first_to (so.before ++ []) at (take written to ++ drop written to) ok (place + 0) k) (omega arith) (so.goes_on [] at (drop written to) ok 0 0 here))));
+      received = subst (λ l. AreReceivedInTurn packets it first_to l at to ok place written) (append-nil so.before)
+          (subst (λ l. AreReceivedInTurn packets it first_to (so.before ++ []) at l ok place written) (take-append-drop written to)
+          (subst (λ k. AreReceivedInTurn packets it first_to (so.before ++ []) at (take written to ++ drop written to) ok k written) (omega arith)
+          (subst (λ k. AreReceivedInTurn packets it first_to (so.before ++ []) at (take written to ++ drop written to) ok (place + 0) k) (omega arith) (so.goes_on [] at (drop written to) ok 0 0 here))));
       tells = so.tells;
     }
 
@@ -100,12 +100,12 @@ pub received_to_last : (packets : List (ℕ × List ℕ)) (it at next : Sequence
     IsReceivedInto p at (drop written to) next next_to one → one.code ≢ out_of_memory → length (drop written to) < one.written →
     AreToldReceived packets it first_to room next (take written to ++ next_to) (slice_set told place one) (record { code = no_room; taken = place + 1; written = written })
 received_to_last packets it at next first_to to next_to room told place written p one below is so received fine lacks =
-    let step : AreReceived (p ∷ drop (place + 1) packets) at (drop written to) (one ∷ []) next next_to no_room 1 0 = lacks_room received fine lacks in
-    let here : AreReceived (drop place packets) at (drop written to) (one ∷ []) next next_to no_room 1 0 =
-    subst (λ l. AreReceived l at (drop written to) (one ∷ []) next next_to no_room 1 0) (at_place packets place p below is) step in
+    let step : AreReceivedInTurn (p ∷ drop (place + 1) packets) at (drop written to) (one ∷ []) next next_to no_room 1 0 = lacks_room received fine lacks in
+    let here : AreReceivedInTurn (drop place packets) at (drop written to) (one ∷ []) next next_to no_room 1 0 =
+    subst (λ l. AreReceivedInTurn l at (drop written to) (one ∷ []) next next_to no_room 1 0) (at_place packets place p below is) step in
     record {
       all_told = so.before ++ one ∷ [];
-      received = subst (λ k. AreReceived packets it first_to (so.before ++ one ∷ []) next (take written to ++ next_to) no_room (place + 1) k) (omega arith) (so.goes_on (one ∷ []) next next_to no_room 1 0 here);
+      received = subst (λ k. AreReceivedInTurn packets it first_to (so.before ++ one ∷ []) next (take written to ++ next_to) no_room (place + 1) k) (omega arith) (so.goes_on (one ∷ []) next next_to no_room 1 0 here);
       tells = told_more so.before room told place one so.count so.tells;
     }
 
@@ -115,13 +115,13 @@ pub received_in_part : (packets : List (ℕ × List ℕ)) (it at next : Sequence
     IsReceivedInto p at (drop written to) next next_to one → one.code ≡ out_of_memory →
     AreToldReceived packets it first_to room next (take written to ++ next_to) told (record { code = out_of_memory; taken = place; written = written })
 received_in_part packets it at next first_to to next_to room told place written p one below is so received lacks =
-    let step : AreReceived (p ∷ drop (place + 1) packets) at (drop written to) [] next next_to out_of_memory 0 0 = lacks_memory received lacks in
-    let here : AreReceived (drop place packets) at (drop written to) [] next next_to out_of_memory 0 0 =
-    subst (λ l. AreReceived l at (drop written to) [] next next_to out_of_memory 0 0) (at_place packets place p below is) step in
+    let step : AreReceivedInTurn (p ∷ drop (place + 1) packets) at (drop written to) [] next next_to out_of_memory 0 0 = lacks_memory received lacks in
+    let here : AreReceivedInTurn (drop place packets) at (drop written to) [] next next_to out_of_memory 0 0 =
+    subst (λ l. AreReceivedInTurn l at (drop written to) [] next next_to out_of_memory 0 0) (at_place packets place p below is) step in
     record {
       all_told = so.before;
-      received = subst (λ l. AreReceived packets it first_to l next (take written to ++ next_to) out_of_memory place written) (append-nil so.before)
-          (subst (λ k. AreReceived packets it first_to (so.before ++ []) next (take written to ++ next_to) out_of_memory k written) (omega arith)
-          (subst (λ k. AreReceived packets it first_to (so.before ++ []) next (take written to ++ next_to) out_of_memory (place + 0) k) (omega arith) (so.goes_on [] next next_to out_of_memory 0 0 here)));
+      received = subst (λ l. AreReceivedInTurn packets it first_to l next (take written to ++ next_to) out_of_memory place written) (append-nil so.before)
+          (subst (λ k. AreReceivedInTurn packets it first_to (so.before ++ []) next (take written to ++ next_to) out_of_memory k written) (omega arith)
+          (subst (λ k. AreReceivedInTurn packets it first_to (so.before ++ []) next (take written to ++ next_to) out_of_memory (place + 0) k) (omega arith) (so.goes_on [] next next_to out_of_memory 0 0 here)));
       tells = so.tells;
     }

@@ -4,12 +4,12 @@ use Rattle.h26x_core.specs.declared.error.PacketError.{PacketError}
 use Rattle.h26x_receiver.specs.declared.received.Received.{Received}
 use Rattle.h26x_handles.specs.declared.sequenced.Completed.{Completed}
 
--- the one
+-- what became of it
 abbrev pub received_of : Result Completed PacketError → Result Received PacketError
 received_of (Ok it) = Ok it.received
 received_of (Err error) = Err error
 
--- the other: none of one that is refused
+-- how many bytes it completed: none where it is refused
 abbrev pub len_of : Result Completed PacketError → ℕ
 len_of (Ok it) = it.len
 len_of (Err error) = 0

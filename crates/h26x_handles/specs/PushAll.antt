@@ -20,23 +20,23 @@ push_told answer = record { pushed = (pushed_numbers answer).0; behind = (pushed
 -- Packets were pushed at this tick, one call after the other, up to the first that is full or for which
 -- memory lacks: the answers of these calls, what stands then, the code of the last one, and how many
 -- packets are not to be given again.
-pub data ArePushed (now : ℕ) : List (ℕ × RtpBody) → UnitsState → List Pushed → UnitsState → ℕ → ℕ →
-    Type 0 where
-  all_pushed : {it : UnitsState} → ArePushed now [] it [] it ok 0
+pub data ArePushedInTurn (now : ℕ) : List (ℕ × RtpBody) → UnitsState → List Pushed → UnitsState →
+    ℕ → ℕ → Type 0 where
+  all_pushed : {it : UnitsState} → ArePushedInTurn now [] it [] it ok 0
   ends_full : {p : ℕ × RtpBody} {packets : List (ℕ × RtpBody)} {it new : UnitsState} →
       IsUnitsPushed now p it new → units_push_answer it p ≡ pushes.Full →
-      ArePushed now (p ∷ packets) it (pushes.Full ∷ []) new ok 0
+      ArePushedInTurn now (p ∷ packets) it (pushes.Full ∷ []) new ok 0
   ends_without_memory : {p : ℕ × RtpBody} {packets : List (ℕ × RtpBody)} {it : UnitsState} →
-      ArePushed now (p ∷ packets) it [] it out_of_memory 0
+      ArePushedInTurn now (p ∷ packets) it [] it out_of_memory 0
   pushed_and : {p : ℕ × RtpBody} {packets : List (ℕ × RtpBody)} {it next new : UnitsState}
       {answers : List Pushed} {code taken : ℕ} →
       IsUnitsPushed now p it next → is_full (units_push_answer it p) ≡ false →
-      ArePushed now packets next answers new code taken →
-      ArePushed now (p ∷ packets) it (units_push_answer it p ∷ answers) new code (1 + taken)
+      ArePushedInTurn now packets next answers new code taken →
+      ArePushedInTurn now (p ∷ packets) it (units_push_answer it p ∷ answers) new code (1 + taken)
 
 -- so they were, and a buffer tells of the first ones, as many as it has room for
 pub record AreToldPushed (now : ℕ) (packets : List (ℕ × RtpBody)) (it new : UnitsState)
     (told new_told : List PushTold) (code taken : ℕ) : Type 0 where
   pub answers : List Pushed
-  pub pushed : ArePushed now packets it answers new code taken
+  pub pushed : ArePushedInTurn now packets it answers new code taken
   pub tells : new_told ≡ with_first (map push_told answers) told

@@ -16,7 +16,7 @@ use Rattle.h26x_handles.specs.declared.receive_all.TakenTo.{TakenTo}
 -- A packet with its sequence number was received, with this answer: what it completed, of so many
 -- bytes, stands at the front of a buffer, or is kept where there is no room for it; one that is late or
 -- refused changes nothing.
-pub record IsReceived (p : ℕ × List ℕ) (it : SequencedEndpoint) (extra : CodecExtra) (to : List ℕ)
+pub record IsPacketReceived (p : ℕ × List ℕ) (it : SequencedEndpoint) (extra : CodecExtra) (to : List ℕ)
     (new : SequencedEndpoint) (new_extra : CodecExtra) (new_to : List ℕ)
     (answer : Result Received PacketError) (written : ℕ) : Type 0 where
   pub answered : IsSequencedAnswer it.run_limit (receiver_at_work it extra) p.0 p.1 answer
@@ -38,7 +38,7 @@ pub record IsReceivedInto (p : ℕ × List ℕ) (it : SequencedEndpoint) (to : L
     (new : SequencedEndpoint) (new_to : List ℕ) (told : ReceivedTold) : Type 0 where
   pub answer : Result Received PacketError
   pub extra : CodecExtra
-  pub received : IsReceived p it extras.None to new extra new_to answer told.written
+  pub received : IsPacketReceived p it extras.None to new extra new_to answer told.written
   pub says : SaysAnswer told.code told.why.first told.why.second told.received told.count answer
   pub tells : told.extra ≡ extra_number extra
 
@@ -46,25 +46,25 @@ pub record IsReceivedInto (p : ℕ × List ℕ) (it : SequencedEndpoint) (to : L
 -- wrote, up to the first for which memory lacks, or that completes what has no room there: what is told
 -- of each, what stands then, the code of the last call, how many packets are not to be given again, and
 -- how many bytes they wrote.
-pub data AreReceived : List (ℕ × List ℕ) → SequencedEndpoint → List ℕ → List ReceivedTold →
+pub data AreReceivedInTurn : List (ℕ × List ℕ) → SequencedEndpoint → List ℕ → List ReceivedTold →
     SequencedEndpoint → List ℕ → ℕ → ℕ → ℕ → Type 0 where
-  all_received : {it : SequencedEndpoint} {to : List ℕ} → AreReceived [] it to [] it to ok 0 0
+  all_received : {it : SequencedEndpoint} {to : List ℕ} → AreReceivedInTurn [] it to [] it to ok 0 0
   lacks_memory : {p : ℕ × List ℕ} {packets : List (ℕ × List ℕ)} {it new : SequencedEndpoint}
       {to new_to : List ℕ} {told : ReceivedTold} →
       IsReceivedInto p it to new new_to told → told.code ≡ out_of_memory →
-      AreReceived (p ∷ packets) it to [] new new_to out_of_memory 0 0
+      AreReceivedInTurn (p ∷ packets) it to [] new new_to out_of_memory 0 0
   lacks_room : {p : ℕ × List ℕ} {packets : List (ℕ × List ℕ)} {it new : SequencedEndpoint}
       {to new_to : List ℕ} {told : ReceivedTold} →
       IsReceivedInto p it to new new_to told → told.code ≢ out_of_memory →
       length to < told.written →
-      AreReceived (p ∷ packets) it to (told ∷ []) new new_to no_room 1 0
+      AreReceivedInTurn (p ∷ packets) it to (told ∷ []) new new_to no_room 1 0
   received_and : {p : ℕ × List ℕ} {packets : List (ℕ × List ℕ)}
       {it next new : SequencedEndpoint} {to next_to rest : List ℕ} {told : ReceivedTold}
       {others : List ReceivedTold} {code taken written : ℕ} →
       IsReceivedInto p it to next next_to told → told.code ≢ out_of_memory →
       told.written ≤ length to →
-      AreReceived packets next (drop told.written next_to) others new rest code taken written →
-      AreReceived (p ∷ packets) it to (told ∷ others) new (take told.written next_to ++ rest)
+      AreReceivedInTurn packets next (drop told.written next_to) others new rest code taken written →
+      AreReceivedInTurn (p ∷ packets) it to (told ∷ others) new (take told.written next_to ++ rest)
       code (1 + taken) (told.written + written)
 
 -- so they were, and a buffer tells of the first ones, as many as it has room for
@@ -72,5 +72,5 @@ pub record AreToldReceived (packets : List (ℕ × List ℕ)) (it : SequencedEnd
     (told : List ReceivedTold) (new : SequencedEndpoint) (new_to : List ℕ)
     (new_told : List ReceivedTold) (end : TakenTo) : Type 0 where
   pub all_told : List ReceivedTold
-  pub received : AreReceived packets it to all_told new new_to end.code end.taken end.written
+  pub received : AreReceivedInTurn packets it to all_told new new_to end.code end.taken end.written
   pub tells : new_told ≡ with_first all_told told

@@ -21,7 +21,7 @@ pub record RtpState : Type 0 where
   pub reception : RtpReception
   pub left : Option ReceivedAccessUnitValue
 
--- these three
+-- such a one, of its three parts
 abbrev pub rtp_state : Codec → RtpReception → Option ReceivedAccessUnitValue → RtpState
 rtp_state codec reception left = record { codec = codec; reception = reception; left = left }
 

@@ -1,5 +1,5 @@
 -- What the worked cases have in common.
-use Rattle.std.specs.Prelude.{ℕ, Bool, List, [], ◌∷◌, Option, Some, None}
+use Rattle.std.specs.Prelude.{ℕ, Bool, List, [], ◌∷◌, Some, None}
 use Rattle.h26x_packetizer.specs.Buffer.{PacketBufferView}
 use Rattle.h26x_rtp.specs.Datagram.{DatagramParts}
 use Rattle.h26x_rtp_sender.specs.Sent.{UnitParts, packet_of}

@@ -1,6 +1,5 @@
 -- What a sender is, and what becomes of its calls (RFC 3550, 5.1 and 6.4.1; RFC 4588, 4).
-use Rattle.std.specs.Prelude.{◌≡◌, ℕ, ◌+◌, ◌%◌, ◌^◌, ◌≤◌, min, Bool, false, List, [], ◌∷◌, ◌++◌, length, Option, Some, None, Result, Ok, Err}
-use Rattle.h26x_core.specs.Sequence.{next_sequence_number}
+use Rattle.std.specs.Prelude.{◌≡◌, ℕ, ◌+◌, ◌%◌, ◌^◌, ◌≤◌, min, false, List, [], ◌∷◌, ◌++◌, length, Option, Some, None, Result, Ok, Err}
 use Rattle.h26x_packetizer.specs.Buffer.{PacketBufferView, headed_at}
 use Rattle.h26x_rtp.specs.Datagram.{ExtensionParts, DatagramParts, HeaderFits, datagram_header}
 use Rattle.h26x_rtp.specs.Rtx.{retransmission_of}
@@ -86,8 +85,8 @@ with_headers headers buffer = record buffer {
 }
 
 -- once the packets of these payloads were sent
-abbrev pub after_packets : UnitParts → List (List ℕ) → RtpSending → RtpSending
-after_packets unit payloads s = record s {
+abbrev pub once_sent : UnitParts → List (List ℕ) → RtpSending → RtpSending
+once_sent unit payloads s = record s {
   media = stream_behind (length payloads) s.media;
   sent = count_with_all payloads s.sent;
   history = record s.history {
@@ -101,16 +100,17 @@ after_packets unit payloads s = record s {
 pub record ArePacketsSent (unit : UnitParts) (s : RtpSending) (buffer : PacketBufferView) (start : ℕ)
     (new : RtpSending) (sent : PacketBufferView) : Type 0 where
   pub begins : IsUnitTest unit buffer.headroom (Ok start)
-  pub stands : new ≡ after_packets unit buffer.packets s
+  pub stands : new ≡ once_sent unit buffer.packets s
   pub headed : sent ≡ with_headers (packet_headers unit s.media.sequence buffer.packets) buffer
 
--- or they are refused, and all is as it was
+-- Or they are refused, and all is as it was. A header that is refused is never told as want of memory.
 abbrev pub IsUnitCall : UnitParts → RtpSending → PacketBufferView → Result ℕ RtpSendError → RtpSending →
     PacketBufferView → Type 0
 IsUnitCall unit s buffer (Ok start) new sent = ArePacketsSent unit s buffer start new sent
 IsUnitCall unit s buffer (Err (Header e)) new sent = (new ≡ s) × (sent ≡ buffer)
     × IsUnitTest unit buffer.headroom (Err e)
 IsUnitCall unit s buffer (Err OutOfMemory) new sent = (new ≡ s) × (sent ≡ buffer)
+    × ((start : ℕ) × IsUnitTest unit buffer.headroom (Ok start))
 
 abbrev pub IsSend : ℕ → Option ExtensionParts → RtpSending → PacketBufferView → Result ℕ RtpSendError →
     RtpSending → PacketBufferView → Type 0

@@ -9,7 +9,7 @@ ghost use Rattle.h26x_rtp_receiver.specs.Cases.{receiver_of_case};
 ghost use Rattle.h26x_rtp_sender.specs.Cases.{unit_of_case, sent_of_case, media_of_case, rtx_of_case, sender_of_case, buffer_of_case};
 ghost use Rattle.h26x_rtp_sender.specs.History.{AreHeldBefore, last_within, has_place, held_of};
 ghost use Rattle.h26x_rtp_sender.specs.Receiving.{IsReceiverOf, IsReceiverBy};
-ghost use Rattle.h26x_rtp_sender.specs.Sending.{IsSend, nothing_sent, count_with, count_with_all, headed_from, with_headers, after_packets, packet_again, after_again};
+ghost use Rattle.h26x_rtp_sender.specs.Sending.{IsSend, nothing_sent, count_with, count_with_all, headed_from, with_headers, once_sent, packet_again, after_again};
 ghost use Rattle.h26x_rtp_sender.specs.Sent.{numbered_packets, packet_headers};
 
 use crate::error::RtpSendError;
@@ -64,7 +64,7 @@ pub fn headers_in_headrooms()
 /// A sender once an access unit was sent, and once one of its packets went again: by RTX its own
 /// number, timestamp and marker behind another header; without RTX as it was.
 pub fn a_sender_after_its_calls()
-    ensures sent { after_packets unit_of_case buffer_of_case.packets sender_of_case
+    ensures sent { once_sent unit_of_case buffer_of_case.packets sender_of_case
         ≡ record sender_of_case {
           media = media_of_case 1;
           sent = record { packets = 2; bytes = 5 };
@@ -98,7 +98,7 @@ pub fn a_sender_after_its_calls()
 /// then; and a receiver of the same settings.
 pub fn calls_and_a_receiver()
     ensures sends { IsSend 9 None sender_of_case buffer_of_case (Ok 1)
-        (after_packets unit_of_case buffer_of_case.packets sender_of_case)
+        (once_sent unit_of_case buffer_of_case.packets sender_of_case)
         (with_headers (packet_headers unit_of_case 65535 buffer_of_case.packets)
         buffer_of_case) }
     ensures refuses { IsSend 9 None sender_of_case (record buffer_of_case { headroom = 11 })

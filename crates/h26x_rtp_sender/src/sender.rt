@@ -1,10 +1,10 @@
 //! A sender that makes RTP packets of the packets of access units.
 
-ghost use Rattle.std.specs.Prelude.{◌≡◌, ◌≤◌, false, [], Err, OnOk, OnErr, length};
+ghost use Rattle.std.specs.Prelude.{◌≡◌, ◌≤◌, false, Err, OnOk, OnErr, length};
 ghost use Rattle.std.specs.Option.{option_map};
 ghost use Rattle.h26x_rtp.specs.Datagram.{HeaderFits};
 ghost use Rattle.h26x_rtp.specs.Views.{extension_view};
-ghost use Rattle.h26x_rtp_sender.specs.Sending.{fresh_sender, unit_header, after_packets, with_headers, IsSend, IsResend};
+ghost use Rattle.h26x_rtp_sender.specs.Sending.{fresh_sender, unit_header, once_sent, with_headers, IsSend, IsResend};
 ghost use Rattle.h26x_rtp_sender.specs.Sent.{unit_view, packet_header, packet_headers};
 
 use crate::count::SentCount;
@@ -103,7 +103,7 @@ impl RtpSender {
         requires short { length (unit_header (unit_view unit)) ≤ 272 }
         requires room { length (unit_header (unit_view unit)) ≤ packets.old.headroom }
         ensures sent { OnOk result (self.new
-            ≡ after_packets (unit_view unit.entry) packets.old.packets self.old) }
+            ≡ once_sent (unit_view unit.entry) packets.old.packets self.old) }
         ensures headed { OnOk result (packets.new ≡ with_headers (packet_headers
             (unit_view unit.entry) self.old.media.sequence packets.old.packets) packets.old) }
         ensures memory { OnErr result (result ≡ Err RtpSendError.OutOfMemory) }

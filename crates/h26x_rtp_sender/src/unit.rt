@@ -1,11 +1,9 @@
 //! What the headers of an access unit's packets have in common.
 
 ghost use Rattle.std.specs.Prelude.{◌≡◌, ◌≤◌, ◌<◌, ◌+◌, min, false, length};
-ghost use Rattle.std.specs.Option.{option_map};
 ghost use Rattle.h26x_packetizer.specs.Buffer.{headed_at};
 ghost use Rattle.h26x_rtp.specs.Datagram.{HeaderFits, datagram_header};
-ghost use Rattle.h26x_rtp.specs.Views.{header_view, extension_view};
-ghost use Rattle.h26x_rtp.specs.Writing.{IsHeaderRefusal};
+ghost use Rattle.h26x_rtp.specs.Views.{header_view};
 ghost use Rattle.h26x_rtp_sender.specs.Sent.{unit_view, packet_header, packet_headers};
 ghost use Rattle.h26x_rtp_sender.specs.Sending.{IsUnitTest, headed_from};
 
