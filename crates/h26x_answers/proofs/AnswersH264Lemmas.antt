@@ -270,11 +270,11 @@ allowed by offered own answer of_offered of_own h =
     }
 
 -- the highest level isn't below the default one
-highest_at_least : (id : ProfileLevelId) (value : Option (List ℕ)) → level_rank id ≤ highest_of id value
+pub highest_at_least : (id : ProfileLevelId) (value : Option (List ℕ)) → level_rank id ≤ highest_of id value
 highest_at_least id None = omega arith
 highest_at_least id (Some text) = omega arith
 
-use_within : (sender receiver : FormatParameters) (s r : ProfileLevelId) → rank_to_use sender receiver s r ≤ highest_rank receiver r
+pub use_within : (sender receiver : FormatParameters) (s r : ProfileLevelId) → rank_to_use sender receiver s r ≤ highest_rank receiver r
 use_within sender receiver s r =
     let high = highest_at_least r (value_at receiver.values 1) in
     by_test (both_asymmetric sender receiver)

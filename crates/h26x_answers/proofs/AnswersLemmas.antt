@@ -10,9 +10,11 @@ use Rattle.h26x_answers.specs.declared.fault.FormatFault.{FormatFault}
 use Rattle.h26x_answers.specs.declared.fault.FormatFault.TheVariants.{OutOfOrder}
 use Rattle.h26x_answers.specs.declared.answer.Role.TheVariants as role
 use Rattle.h26x_fmtp.specs.Reading.{FormatParameters, value_at}
-use Rattle.h26x_answers.specs.Answers.{MediaFormat, Terms, Rules, answered_value, answered_values, answered, common_terms, answer_by, unless_broken, takes_order, own_fault, allowed_answer, answer_of, format_answer, offer_answer}
+use Rattle.h26x_answers.specs.Answers.{MediaFormat, Terms, Rules, answered_value, answered_values, answered, common_terms, answer_by, unless_broken, takes_order, own_fault, known_answer, usable, heard, directed_answer, allowed_answer, answer_of, format_answer, offer_answer}
+use Rattle.h26x_answers.specs.Directions.{opposite}
+use Rattle.h26x_answers.specs.declared.direction.Direction.{Direction}
 use Rattle.h26x_fmtp.specs.Parameters.{AreParameters}
-use Rattle.h26x_answers.specs.AnswerLaws.{ComesFrom, IsCommonAnswered, IsAnswerCommon}
+use Rattle.h26x_answers.specs.AnswerLaws.{heard_offer, ComesFrom, IsCommonAnswered, IsAnswerCommon}
 
 -- each row of the answer is made of those of the offer and of ours
 pub answered_at : (terms : Terms) (roles : List Role) (offered own : List (Option (List ℕ))) (k : ℕ) → length offered ≡ length roles → length own ≡ length roles → k < length roles
@@ -117,17 +119,29 @@ let_in : (test : Bool) (some : Option FormatParameters) (it : FormatParameters) 
 let_in true some it h = (refl, h)
 let_in false some it h = cc h
 
-have_first : (rules : Rules) (config : AnswerConfig) (Is : FormatParameters → FormatParameters → Type 0) → AreCommon rules Is → (format : MediaFormat) (offer : List MediaFormat) (ours : List FormatParameters) → AreParameters rules.rows format.parameters → AllByRecursion (AreParameters rules.rows) ours
+-- what is heard of parameters is parameters
+abbrev pub HearsParameters : Rules → Type 0
+HearsParameters rules = (direction : Direction) (it : FormatParameters) → AreParameters rules.rows it → AreParameters rules.rows (heard rules direction it)
+
+-- what an answer is made of
+pub made_of : {A B : Type 0} (f : A → B) (found : Option A) (it : B) → option_map f found ≡ Some it → (whole : A) × (found ≡ Some whole) × (it ≡ f whole)
+made_of f None it h = cc h
+made_of f (Some whole) it h = (whole, refl, cc h)
+
+have_first : (rules : Rules) (config : AnswerConfig) (Is : FormatParameters → FormatParameters → Type 0) → HearsParameters rules → AreCommon rules Is → (format : MediaFormat) (offer : List MediaFormat) (ours : List FormatParameters) → AreParameters rules.rows format.parameters → AllByRecursion (AreParameters rules.rows) ours
     → (answer : MediaFormat) → format_answer rules config format ours ≡ Some answer → ComesFrom rules config Is (format ∷ offer) ours answer
-have_first rules config Is are format offer ours of_format of_ours answer h =
+have_first rules config Is hears are format offer ours of_format of_ours answer h =
     let (it, by, is) = format_parts format (answer_of rules config format.parameters ours) answer h in
     let (own, within, allowed) = answer_from rules config format.parameters ours it by in
-    let order = takes_order rules config format.parameters in
-    let (let_through, rest) = let_in (rules.known format.parameters && order) (unless_broken (own_fault rules config own) (answer_by rules format.parameters own)) it allowed in
-    let (known, theirs) = and_parts (rules.known format.parameters) order let_through in
-    let (no_fault, one) = unbroken_parts (own_fault rules config own) (answer_by rules format.parameters own) it rest in
+    let theirs = heard_offer rules config format.parameters in
+    let own_heard = heard rules config.direction own in
+    let (no_fault, directed) = unbroken_parts (own_fault rules config own) (directed_answer rules config format.parameters own) it allowed in
     let (unbroken, ours_taken) = fault_parts (rules.fault own) (takes_order rules config own) no_fault in
-    let (terms, common, made) = answer_parts rules format.parameters own it (common_terms rules format.parameters own) one in
+    let (whole, let_through, usable_is) = made_of (usable rules config.direction) (known_answer rules config theirs own_heard) it directed in
+    let order = takes_order rules config theirs in
+    let (fits, one) = let_in (rules.known theirs && order) (answer_by rules theirs own_heard) whole let_through in
+    let (known, theirs_taken) = and_parts (rules.known theirs) order fits in
+    let (terms, common, made) = answer_parts rules theirs own_heard whole (common_terms rules theirs own_heard) one in
     let of_own = each_of (AreParameters rules.rows) ours own of_ours within in
     record {
       format = format;
@@ -137,25 +151,26 @@ have_first rules config Is are format offer ours of_format of_ours answer h =
         taken = within;
         known = known;
         unbroken = unbroken;
-        their_order = order_parts config.any_order (rules.reorders format.parameters) theirs;
+        their_order = order_parts config.any_order (rules.reorders theirs) theirs_taken;
         our_order = order_parts config.any_order (rules.reorders own) ours_taken;
-        common = are format.parameters own of_format of_own terms common;
+        common = are theirs own_heard (hears (opposite config.direction) format.parameters of_format) (hears config.direction own of_own) terms common;
       };
       keeps = ap (λ (m : MediaFormat). m.payload_type) is;
-      is = one ∙ ap (λ (m : MediaFormat). Some m.parameters) (sym is);
+      is = ap (λ (found : Option FormatParameters). option_map (usable rules config.direction) found) one ∙ ap (λ (p : FormatParameters). Some p) (sym usable_is)
+          ∙ ap (λ (m : MediaFormat). Some m.parameters) (sym is);
     }
 
 -- an answer comes from a format and one of ours that have a configuration in common
-comes_from_all : (rules : Rules) (config : AnswerConfig) (Is : FormatParameters → FormatParameters → Type 0) → AreCommon rules Is → (offer : List MediaFormat) (ours : List FormatParameters) → AllByRecursion (λ it. AreParameters rules.rows it.parameters) offer → AllByRecursion (AreParameters rules.rows) ours
+comes_from_all : (rules : Rules) (config : AnswerConfig) (Is : FormatParameters → FormatParameters → Type 0) → HearsParameters rules → AreCommon rules Is → (offer : List MediaFormat) (ours : List FormatParameters) → AllByRecursion (λ it. AreParameters rules.rows it.parameters) offer → AllByRecursion (AreParameters rules.rows) ours
     → (answer : MediaFormat) → offer_answer rules config offer ours ≡ Some answer → ComesFrom rules config Is offer ours answer
-comes_from_all rules config Is are [] ours of_offer of_ours answer h = cc h
-comes_from_all rules config Is are (format ∷ offer) ours of_offer of_ours answer h = elim (either (format_answer rules config format ours) (offer_answer rules config offer ours) answer h) [
-  | inl here ↦ have_first rules config Is are format offer ours of_offer.0 of_ours answer here
-  | inr behind ↦ have_more rules config Is format offer ours answer (comes_from_all rules config Is are offer ours of_offer.1 of_ours answer behind)
+comes_from_all rules config Is hears are [] ours of_offer of_ours answer h = cc h
+comes_from_all rules config Is hears are (format ∷ offer) ours of_offer of_ours answer h = elim (either (format_answer rules config format ours) (offer_answer rules config offer ours) answer h) [
+  | inl here ↦ have_first rules config Is hears are format offer ours of_offer.0 of_ours answer here
+  | inr behind ↦ have_more rules config Is format offer ours answer (comes_from_all rules config Is hears are offer ours of_offer.1 of_ours answer behind)
 ]
 
-pub comes_from : (rules : Rules) (Is : FormatParameters → FormatParameters → Type 0) → AreCommon rules Is → IsAnswerCommon rules Is
-comes_from rules Is are config offer ours formats answer h = comes_from_all rules config Is are offer ours formats.theirs formats.own answer h
+pub comes_from : (rules : Rules) (Is : FormatParameters → FormatParameters → Type 0) → HearsParameters rules → AreCommon rules Is → IsAnswerCommon rules Is
+comes_from rules Is hears are config offer ours formats answer h = comes_from_all rules config Is hears are offer ours formats.theirs formats.own answer h
 
 -- the first of two or the second is there, if one of them is
 first_there : {A : Type 0} (a b : Option A) → is_some a ≡ true → is_some (option_or a b) ≡ true
@@ -188,18 +203,23 @@ offer_there rules config format (f ∷ offer) ours (suc k) within is there =
     second_there (format_answer rules config f ours) (offer_answer rules config offer ours) (offer_there rules config format offer ours k (omega arith) is there)
 
 -- of two ends with a configuration in common there is an answer
-pub found : (rules : Rules) (Is : FormatParameters → FormatParameters → Type 0) → HaveTerms rules Is → IsCommonAnswered rules Is
-found rules Is have_terms config offer ours formats format own have =
+pub found : (rules : Rules) (Is : FormatParameters → FormatParameters → Type 0) → HearsParameters rules → HaveTerms rules Is → IsCommonAnswered rules Is
+found rules Is hears have_terms config offer ours formats format own have =
     let of_format = each_of (λ (it : MediaFormat). AreParameters rules.rows it.parameters) offer format formats.theirs have.offered in
     let of_own = each_of (AreParameters rules.rows) ours own formats.own have.taken in
-    let (terms, common) = have_terms format.parameters own of_format of_own have.common in
-    let by : is_some (answer_by rules format.parameters own) ≡ true =
-    map_there (answered rules format.parameters own) (common_terms rules format.parameters own) (ap (λ (o : Option Terms). is_some o) common) in
+    let theirs = heard_offer rules config format.parameters in
+    let own_heard = heard rules config.direction own in
+    let (terms, common) = have_terms theirs own_heard (hears (opposite config.direction) format.parameters of_format) (hears config.direction own of_own) have.common in
+    let by : is_some (answer_by rules theirs own_heard) ≡ true =
+    map_there (answered rules theirs own_heard) (common_terms rules theirs own_heard) (ap (λ (o : Option Terms). is_some o) common) in
+    let known : is_some (known_answer rules config theirs own_heard) ≡ true =
+    ap (λ t. is_some (cond t (answer_by rules theirs own_heard) None))
+    (and_from (rules.known theirs) (takes_order rules config theirs) have.known (order_from config.any_order (rules.reorders theirs) have.their_order)) ∙ by in
+    let directed : is_some (directed_answer rules config format.parameters own) ≡ true =
+    map_there (usable rules config.direction) (known_answer rules config theirs own_heard) known in
     let let_through : is_some (allowed_answer rules config format.parameters own) ≡ true =
-    ap (λ t. is_some (cond t (unless_broken (own_fault rules config own) (answer_by rules format.parameters own)) None))
-    (and_from (rules.known format.parameters) (takes_order rules config format.parameters) have.known (order_from config.any_order (rules.reorders format.parameters) have.their_order))
-    ∙ ap (λ f. is_some (unless_broken f (answer_by rules format.parameters own)))
-    (fault_from (rules.fault own) (takes_order rules config own) have.unbroken (order_from config.any_order (rules.reorders own) have.our_order)) ∙ by in
+    ap (λ f. is_some (unless_broken f (directed_answer rules config format.parameters own)))
+    (fault_from (rules.fault own) (takes_order rules config own) have.unbroken (order_from config.any_order (rules.reorders own) have.our_order)) ∙ directed in
     let one = answer_there rules config format.parameters own ours have.taken.0 have.taken.1 have.taken.2 let_through in
     offer_there rules config format offer ours have.offered.0 have.offered.1 have.offered.2
     (map_there (λ (it : FormatParameters). record format { parameters = it }) (answer_of rules config format.parameters ours) one)

@@ -270,7 +270,7 @@ order_test sender receiver it = both_true (is_some (value_at sender.values 15)) 
 
 -- ---- what is in common
 
-mode_same : (offered own : FormatParameters) → AreParameters rows offered → AreParameters rows own → are_symmetric roles rows offered.values own.values ≡ true
+pub mode_same : (offered own : FormatParameters) → AreParameters rows offered → AreParameters rows own → are_symmetric roles rows offered.values own.values ≡ true
     → (m : ℕ) × (number offered p.PacketizationMode ≡ Some m) × (number own p.PacketizationMode ≡ Some m)
 mode_same offered own of_offered of_own h =
     let lo : length offered.values ≡ length roles = long_values rows offered.values of_offered.values in
@@ -400,7 +400,7 @@ h264_terms by offered own of_offered of_own it =
 
 -- ---- what the answer says
 
-some_id : (x y : ProfileLevelId) → Some x ≡ Some y → x ≡ y
+pub some_id : (x y : ProfileLevelId) → Some x ≡ Some y → x ≡ y
 some_id x y h = cc h
 
 some_number : (x y : ℕ) → Some x ≡ Some y → x ≡ y

@@ -12,3 +12,9 @@ pub mod ConfigurationsH264Lemmas
 pub mod LevelsSaidLemmas
 pub mod ConfigurationsTieredLemmas
 pub mod OrderLemmas
+pub mod OwnLemmas
+pub mod HeardLemmas
+pub mod DirectionLemmas
+pub mod AgreedLemmas
+pub mod DeclaredLemmas
+pub mod MulticastLemmas

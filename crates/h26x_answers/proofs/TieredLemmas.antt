@@ -63,7 +63,7 @@ h266_describes =
     }
 
 -- what a test let through
-let_through : {A : Type 0} (test : Bool) (some : Option A) (it : A) → cond test some None ≡ Some it → (test ≡ true) × (some ≡ Some it)
+pub let_through : {A : Type 0} (test : Bool) (some : Option A) (it : A) → cond test some None ≡ Some it → (test ≡ true) × (some ≡ Some it)
 let_through true some it h = (refl, h)
 let_through false some it h = cc h
 

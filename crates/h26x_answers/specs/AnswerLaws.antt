@@ -3,14 +3,20 @@ use Rattle.std.specs.Prelude.{◌≡◌, ◌⊎◌, ◌↔◌, List, Some, None,
 use Rattle.std.specs.List.{Contains, AllByRecursion}
 use Rattle.h26x_fmtp.specs.Reading.{FormatParameters}
 use Rattle.h26x_answers.specs.declared.answer.AnswerConfig.{AnswerConfig}
-use Rattle.h26x_answers.specs.Answers.{MediaFormat, Rules, answer_by, offer_answer}
+use Rattle.h26x_answers.specs.Directions.{opposite}
+use Rattle.h26x_answers.specs.Answers.{MediaFormat, Rules, heard, answer_by, answer_in, offer_answer}
 use Rattle.h26x_fmtp.specs.Parameters.{AreParameters}
 
 -- a format's units are sent in the order in which they're decoded, or the answerer takes any
 abbrev pub IsOrderTaken : Rules → AnswerConfig → FormatParameters → Type 0
 IsOrderTaken rules config it = (config.any_order ≡ true) ⊎ (rules.reorders it ≡ false)
 
--- an offered format and one of ours that have a configuration in common, by what that is of a codec
+-- an offered format as it's heard in its direction, the opposite of the answer's
+abbrev pub heard_offer : Rules → AnswerConfig → FormatParameters → FormatParameters
+heard_offer rules config it = heard rules (opposite config.direction) it
+
+-- an offered format and one of ours that have a configuration in common, by what that is of a codec,
+-- in their directions
 pub record HaveCommon (rules : Rules) (config : AnswerConfig)
     (IsCommon : FormatParameters → FormatParameters → Type 0)
     (offer : List MediaFormat) (ours : List FormatParameters)
@@ -18,12 +24,13 @@ pub record HaveCommon (rules : Rules) (config : AnswerConfig)
   pub offered : Contains offer format
   pub taken : Contains ours own
   -- its profile and level are those of a table, and ours breaks no rule of its RFC
-  pub known : rules.known format.parameters ≡ true
+  pub known : rules.known (heard_offer rules config format.parameters) ≡ true
   pub unbroken : rules.fault own ≡ None
   -- and their units are sent in an order that the answerer takes
-  pub their_order : IsOrderTaken rules config format.parameters
+  pub their_order : IsOrderTaken rules config (heard_offer rules config format.parameters)
   pub our_order : IsOrderTaken rules config own
-  pub common : IsCommon format.parameters own
+  pub common : IsCommon (heard_offer rules config format.parameters)
+      (heard rules config.direction own)
 
 -- an answer is made of such a pair, and keeps the payload type
 pub record ComesFrom (rules : Rules) (config : AnswerConfig)
@@ -33,7 +40,7 @@ pub record ComesFrom (rules : Rules) (config : AnswerConfig)
   pub own : FormatParameters
   pub have : HaveCommon rules config IsCommon offer ours format own
   pub keeps : answer.payload_type ≡ format.payload_type
-  pub is : answer_by rules format.parameters own ≡ Some answer.parameters
+  pub is : answer_in rules config.direction format.parameters own ≡ Some answer.parameters
 
 -- all formats of an offer, and all of ours, are parameters of a codec
 pub record AreFormats (rules : Rules) (offer : List MediaFormat) (ours : List FormatParameters) :

@@ -7,6 +7,10 @@ use Rattle.h26x_fmtp.specs.declared.kind.Kind.TheVariants.{Number, HexadecimalNu
 use Rattle.h26x_answers.specs.declared.answer.Role.{Role}
 use Rattle.h26x_answers.specs.declared.answer.AnswerConfig.{AnswerConfig}
 use Rattle.h26x_answers.specs.declared.answer.AnswerRules.{AnswerRules}
+use Rattle.h26x_answers.specs.declared.direction.Direction.{Direction}
+use Rattle.h26x_answers.specs.declared.direction.Direction.TheVariants.{SendRecv}
+use Rattle.h26x_answers.specs.declared.direction.Usage.{Usage}
+use Rattle.h26x_answers.specs.Directions.{opposite, usable_values}
 use Rattle.h26x_answers.specs.declared.fault.FormatFault.{FormatFault}
 use Rattle.h26x_answers.specs.declared.fault.FormatFault.TheVariants.{OutOfOrder}
 use Rattle.h26x_answers.specs.declared.answer.Role.TheVariants as role
@@ -127,20 +131,40 @@ pub record Rules : Type 0 where
   pub fault : FormatParameters → Option FormatFault
   -- whether a format's units may be sent in another order than decoded
   pub reorders : FormatParameters → Bool
+  -- in which directions each parameter is usable
+  pub usages : List Usage
 
 -- those of the RFC, or of WebRTC's peers
 abbrev pub rules_of : AnswerRules → List ParameterRow → List Role →
     (AnswerRules → FormatParameters → FormatParameters → Option Terms) →
     (AnswerRules → FormatParameters → Bool) →
-    (AnswerRules → FormatParameters → Option FormatFault) → (FormatParameters → Bool) → Rules
-rules_of by rows roles terms known fault reorders = record {
+    (AnswerRules → FormatParameters → Option FormatFault) → (FormatParameters → Bool) →
+    List Usage → Rules
+rules_of by rows roles terms known fault reorders usages = record {
   rows = rows;
   roles = roles;
   terms = terms by;
   known = known by;
   fault = fault by;
   reorders = reorders;
+  usages = usages;
 }
+
+-- the same where media go: in multicast the level isn't changed, so that its terms are others
+abbrev pub in_cast : AnswerConfig → (FormatParameters → FormatParameters → Option Terms) → Rules →
+    Rules
+in_cast config multicast rules =
+    record rules { terms = if config.multicast then multicast else rules.terms }
+
+abbrev pub rules_in : AnswerConfig → List ParameterRow → List Role →
+    (AnswerRules → FormatParameters → FormatParameters → Option Terms) →
+    (AnswerRules → FormatParameters → FormatParameters → Option Terms) →
+    (AnswerRules → FormatParameters → Bool) →
+    (AnswerRules → FormatParameters → Option FormatFault) → (FormatParameters → Bool) →
+    List Usage → Rules
+rules_in config rows roles terms multicast known fault reorders usages =
+    in_cast config (multicast config.rules)
+    (rules_of config.rules rows roles terms known fault reorders usages)
 
 -- the parameters of the answer, on terms: of those that the table doesn't have our own alone
 abbrev pub answered : Rules → FormatParameters → FormatParameters → Terms → FormatParameters
@@ -174,11 +198,60 @@ abbrev pub own_fault : Rules → AnswerConfig → FormatParameters → Option Fo
 own_fault rules config own = option_or (rules.fault own)
     (if takes_order rules config own then None else Some OutOfOrder)
 
+-- the answer to an offered format that is known, of an order that the answerer takes
+abbrev pub known_answer : Rules → AnswerConfig → FormatParameters → FormatParameters →
+    Option FormatParameters
+known_answer rules config offered own =
+    if rules.known offered && takes_order rules config offered then answer_by rules offered own
+    else None
+
+-- what is usable of a format in a direction of who writes it, where its units are sent in another order
+-- than decoded or aren't
+abbrev pub usable_where : List Role → List Usage → Direction → Bool → FormatParameters →
+    FormatParameters
+usable_where roles usages direction reorders it = record {
+  values = usable_values direction reorders roles usages it.values;
+  others = it.others;
+}
+
+-- both ways all of it is
+abbrev pub usable : Rules → Direction → FormatParameters → FormatParameters
+usable rules SendRecv it = it
+usable rules direction it = usable_where rules.roles rules.usages direction false it
+
+-- a format as it's heard in one direction: where it's of interleaved mode, an end that sends no units
+-- sends none out of order
+abbrev pub heard_where : List Role → List Usage → (FormatParameters → Bool) → Direction →
+    FormatParameters → FormatParameters
+heard_where roles usages reorders direction it = usable_where roles usages direction
+    (reorders (usable_where roles usages direction false it)) it
+
+abbrev pub heard : Rules → Direction → FormatParameters → FormatParameters
+heard rules SendRecv it = it
+heard rules direction it = heard_where rules.roles rules.usages rules.reorders direction it
+
+-- the answer in a direction: what is usable of that to what is heard of an offered format, by what is
+-- heard of ours
+abbrev pub answer_in : Rules → Direction → FormatParameters → FormatParameters →
+    Option FormatParameters
+answer_in rules direction offered own = option_map (usable rules direction)
+    (answer_by rules (heard rules (opposite direction) offered) (heard rules direction own))
+
+-- the same of an offered format that is known, of an order that the answerer takes
+abbrev pub heard_answer : Rules → AnswerConfig → FormatParameters → FormatParameters →
+    Option FormatParameters
+heard_answer rules config offered own = known_answer rules config
+    (heard rules (opposite config.direction) offered) (heard rules config.direction own)
+
+abbrev pub directed_answer : Rules → AnswerConfig → FormatParameters → FormatParameters →
+    Option FormatParameters
+directed_answer rules config offered own =
+    option_map (usable rules config.direction) (heard_answer rules config offered own)
+
 abbrev pub allowed_answer : Rules → AnswerConfig → FormatParameters → FormatParameters →
     Option FormatParameters
 allowed_answer rules config offered own =
-    if rules.known offered && takes_order rules config offered then
-    unless_broken (own_fault rules config own) (answer_by rules offered own) else None
+    unless_broken (own_fault rules config own) (directed_answer rules config offered own)
 
 -- the answer by the first of ours that gives one
 abbrev pub answer_of : Rules → AnswerConfig → FormatParameters → List FormatParameters →

@@ -70,6 +70,15 @@ can_hold rows by sender receiver = not (is_positive (number_or_default rows send
     && (is_positive (number_or_default rows sender by.need)
     && holds (number_or_default rows sender by.need) (number_or_default rows receiver by.room)))
 
+abbrev pub keeps_levels : Option Levels → Option Levels → Bool
+keeps_levels None b = false
+keeps_levels (Some a) None = false
+keeps_levels (Some a) (Some b) = nat_le a.level b.level
+
+-- whether our level isn't below the offered one, so that an answer may keep that
+abbrev pub keeps_level : List ParameterRow → LevelRows → FormatParameters → FormatParameters → Bool
+keeps_level rows by offered own = keeps_levels (levels_of rows by offered) (levels_of rows by own)
+
 -- parameter sets of our own are of the answer's level, where that is ours
 abbrev pub terms_of_levels : List ParameterRow → LevelRows → FormatParameters → FormatParameters →
     Levels → Levels → Terms

@@ -1,5 +1,6 @@
 -- Answers to offers of H.264 (RFC 6184, section 8.2.2).
-use Rattle.std.specs.Prelude.{ℕ, ◌+◌, ◌-◌, ◌*◌, ◌==◌, max, nat_lt, nat_le, Bool, false, not, ◌&&◌, ◌||◌, if◌then◌else◌, List, [], ◌∷◌, codes, find, Option, Some, None, is_some, Result, Ok}
+use Rattle.std.specs.Prelude.{ℕ, ◌+◌, ◌-◌, ◌*◌, ◌==◌, max, nat_lt, nat_le, Bool, true, false, not, ◌&&◌, ◌||◌, if◌then◌else◌, List, [], ◌∷◌, codes, find, Option, Some, None, is_some, Result, Ok}
+use Rattle.std.specs.List.{list_any}
 use Rattle.std.specs.Option.{option_and_then, option_or, unwrap_or}
 use Rattle.hex.specs.Hex.{decode_sized, encode_lower}
 use Rattle.hex.specs.declared.error.FromHexError.{FromHexError}
@@ -11,6 +12,8 @@ use Rattle.h26x_answers.specs.declared.answer.AnswerRules.{AnswerRules}
 use Rattle.h26x_answers.specs.declared.answer.AnswerRules.TheVariants.{Rfc, Webrtc}
 use Rattle.h26x_answers.specs.declared.answer.Role.{Role}
 use Rattle.h26x_answers.specs.declared.answer.Role.TheVariants as role
+use Rattle.h26x_answers.specs.declared.direction.Usage.{Usage}
+use Rattle.h26x_answers.specs.declared.direction.Usage.TheVariants as usage
 use Rattle.h26x_sdp.specs.declared.h264.H264Parameter.{H264Parameter}
 use Rattle.h26x_sdp.specs.declared.h264.H264Parameter.TheVariants as p
 use Rattle.h26x_answers.specs.declared.answer.h264.ProfileLevelId.{ProfileLevelId}
@@ -42,6 +45,27 @@ roles =
     role.Reordering ∷ role.Reordering ∷
     -- max-rcmd-nalu-size, sar-understood and sar-supported
     role.Own ∷ role.Own ∷ role.Own ∷ []
+
+-- in which directions each parameter is usable (table 6), in the order of the table
+abbrev pub usages : List Usage
+usages =
+    -- profile-level-id and max-recv-level
+    usage.Always ∷ usage.Receiving ∷
+    -- max-mbps, max-smbps, max-fs, max-cpb, max-dpb, max-br and redundant-pic-cap
+    usage.Receiving ∷ usage.Receiving ∷ usage.Receiving ∷ usage.Receiving ∷
+    usage.Receiving ∷ usage.Receiving ∷ usage.Receiving ∷
+    -- sprop-parameter-sets and sprop-level-parameter-sets
+    usage.Sending ∷ usage.Sending ∷
+    -- use-level-src-parameter-sets, in-band-parameter-sets and level-asymmetry-allowed
+    usage.Receiving ∷ usage.Receiving ∷ usage.Both ∷
+    -- packetization-mode
+    usage.Always ∷
+    -- sprop-interleaving-depth, sprop-deint-buf-req and deint-buf-cap
+    usage.Sending ∷ usage.Sending ∷ usage.Receiving ∷
+    -- sprop-init-buf-time and sprop-max-don-diff
+    usage.Sending ∷ usage.Sending ∷
+    -- max-rcmd-nalu-size, sar-understood and sar-supported
+    usage.Receiving ∷ usage.Receiving ∷ usage.Receiving ∷ []
 
 -- the bytes of six digits
 abbrev pub three_bytes : Result (List ℕ) FromHexError → Option ProfileLevelId
@@ -243,6 +267,19 @@ terms_of_ids by offered own (Some a) (Some b) =
 abbrev pub terms : AnswerRules → FormatParameters → FormatParameters → Option Terms
 terms by offered own = terms_of_ids by offered own (id_of by offered) (id_of by own)
 
+abbrev pub multicast_terms_of_ids : AnswerRules → FormatParameters → FormatParameters →
+    Option ProfileLevelId → Option ProfileLevelId → Option Terms
+multicast_terms_of_ids by offered own None b = None
+multicast_terms_of_ids by offered own (Some a) None = None
+multicast_terms_of_ids by offered own (Some a) (Some b) =
+    if nat_le (level_rank a) (level_rank b) && (takes_profile by a b && can_order offered own)
+    then Some (terms_at offered false a b a) else None
+
+-- the same in multicast, at the offered level, which ours isn't below; no end has its own
+abbrev pub multicast_terms : AnswerRules → FormatParameters → FormatParameters → Option Terms
+multicast_terms by offered own =
+    multicast_terms_of_ids by offered own (id_of by offered) (id_of by own)
+
 -- ---- formats that RFC 6184, section 8.1, lets an end say of itself
 
 abbrev pub limits_with : ℕ → ℕ → ℕ → ℕ → ℕ → ℕ → LevelLimits
@@ -307,10 +344,30 @@ reordering_fits it =
 abbrev pub reordering_fault : FormatParameters → Option FormatFault
 reordering_fault it = if reordering_fits it then None else Some faults.Reordering
 
--- limits and reordering, at the highest level that is received
+-- aspect ratios are supported up to the last that is understood, or, by 255, all
+abbrev pub ratios_fit : Option ℕ → Option ℕ → Bool
+ratios_fit None supported = true
+ratios_fit (Some understood) None = true
+ratios_fit (Some understood) (Some supported) =
+    (supported == 255) || nat_le supported understood
+
+-- who discards parameter sets that are told doesn't use those of other levels
+abbrev pub in_band_fits : FormatParameters → Bool
+in_band_fits it =
+    not (is_on it p.InBandParameterSets) || not (is_on it p.UseLevelSrcParameterSets)
+
+-- what is said of aspect ratios and of parameter sets in band
+abbrev pub receiver_fault : FormatParameters → Option FormatFault
+receiver_fault it =
+    if not (ratios_fit (number it p.SarUnderstood) (number it p.SarSupported))
+    then Some faults.AspectRatios
+    else (if in_band_fits it then None else Some faults.InBandSets)
+
+-- limits, reordering and what a receiver says, at the highest level that is received
 abbrev pub fault_at : FormatParameters → Option LevelLimits → Option FormatFault
 fault_at it None = Some faults.HighestLevel
-fault_at it (Some level) = option_or (first_below it level) (reordering_fault it)
+fault_at it (Some level) =
+    option_or (option_or (first_below it level) (reordering_fault it)) (receiver_fault it)
 
 -- max-recv-level is above the level
 abbrev pub fault_with : FormatParameters → ℕ → Option (List ℕ) → Option FormatFault
@@ -324,10 +381,19 @@ fault_received it rank = fault_with it rank (value_at it.values (row_place p.Max
 abbrev pub is_level : ProfileLevelId → Bool
 is_level id = is_some (limits_of (level_rank id))
 
--- the level is one of the standard's
+-- each profile_idc of the standard (Rec. ITU-T H.264, Annexes A and G to J): those of one layer and
+-- view, and those of scalable, multiview and depth profiles
+abbrev pub profile_numbers : List ℕ
+profile_numbers =
+    66 ∷ 77 ∷ 88 ∷ 100 ∷ 110 ∷ 122 ∷ 244 ∷ 44 ∷ 83 ∷ 86 ∷ 118 ∷ 128 ∷ 134 ∷ 135 ∷ 138 ∷ 139 ∷ []
+
+abbrev pub is_profile : ProfileLevelId → Bool
+is_profile id = list_any (λ number. number == id.profile_idc) profile_numbers
+
+-- profile and level are the standard's
 abbrev pub known_id : Option ProfileLevelId → Bool
 known_id None = false
-known_id (Some id) = is_level id
+known_id (Some id) = is_profile id && is_level id
 
 abbrev pub known : AnswerRules → FormatParameters → Bool
 known by it = known_id (id_of by it)
@@ -335,10 +401,11 @@ known by it = known_id (id_of by it)
 abbrev pub fault_of_id : FormatParameters → Option ProfileLevelId → Option FormatFault
 fault_of_id it None = Some faults.Level
 fault_of_id it (Some id) =
-    if is_level id then fault_received it (level_rank id) else Some faults.Level
+    if not (is_profile id) then Some faults.Profile
+    else (if is_level id then fault_received it (level_rank id) else Some faults.Level)
 
--- the first rule that a format of one's own breaks: its level, the highest one, its limits, and what it
--- says of packets out of order
+-- the first rule that a format of one's own breaks: its profile, its level, the highest one, its
+-- limits, what it says of packets out of order, and of itself as a receiver
 abbrev pub fault : AnswerRules → FormatParameters → Option FormatFault
 fault by it = fault_of_id it (id_of by it)
 
@@ -350,4 +417,5 @@ rules by = record {
   known = known by;
   fault = fault by;
   reorders = is_interleaved;
+  usages = usages;
 }

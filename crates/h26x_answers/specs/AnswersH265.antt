@@ -8,12 +8,14 @@ use Rattle.h26x_answers.specs.declared.answer.AnswerRules.{AnswerRules}
 use Rattle.h26x_answers.specs.declared.answer.AnswerRules.TheVariants.{Rfc, Webrtc}
 use Rattle.h26x_answers.specs.declared.answer.Role.{Role}
 use Rattle.h26x_answers.specs.declared.answer.Role.TheVariants as role
+use Rattle.h26x_answers.specs.declared.direction.Usage.{Usage}
+use Rattle.h26x_answers.specs.declared.direction.Usage.TheVariants as usage
 use Rattle.h26x_sdp.specs.declared.h265.H265Parameter.TheVariants as p
 use Rattle.h26x_fmtp.specs.Reading.{FormatParameters, value_at, value_or_default, number_or_default}
 use Rattle.h26x_sdp.specs.H265Rows.{rows, row_place}
 use Rattle.h26x_answers.specs.OwnH265 as own
 use Rattle.h26x_answers.specs.Answers.{Terms, Rules, same_number, same_if_given}
-use Rattle.h26x_answers.specs.AnswersByLevel.{LevelRows, is_positive, terms_by_level}
+use Rattle.h26x_answers.specs.AnswersByLevel.{LevelRows, is_positive, keeps_level, terms_by_level}
 
 -- what each parameter is in an offer and its answer (table 1), in the order of the table
 abbrev pub roles : List Role
@@ -36,6 +38,29 @@ roles =
     role.Own ∷ role.Own ∷ role.Own ∷ role.Own ∷
     -- sprop-segmentation-id, sprop-spatial-segmentation-idc, dec-parallel-cap and include-dph
     role.Own ∷ role.Own ∷ role.Own ∷ role.Own ∷ []
+
+-- in which directions each parameter is usable (table 1), in the order of the table
+abbrev pub usages : List Usage
+usages =
+    -- profile-space, profile-id and tier-flag
+    usage.Always ∷ usage.Always ∷ usage.Always ∷
+    -- level-id
+    usage.Always ∷
+    -- interop-constraints and profile-compatibility-indicator
+    usage.Always ∷ usage.Always ∷
+    -- sprop-sub-layer-id and recv-sub-layer-id
+    usage.Sending ∷ usage.Receiving ∷
+    -- max-recv-level-id and tx-mode
+    usage.Receiving ∷ usage.Always ∷
+    -- sprop-vps, sprop-sps, sprop-pps and sprop-sei
+    usage.Sending ∷ usage.Sending ∷ usage.Sending ∷ usage.Sending ∷
+    -- max-lsr, max-lps, max-cpb, max-dpb, max-br, max-tr, max-tc and max-fps
+    usage.Receiving ∷ usage.Receiving ∷ usage.Receiving ∷ usage.Receiving ∷
+    usage.Receiving ∷ usage.Receiving ∷ usage.Receiving ∷ usage.Receiving ∷
+    -- sprop-max-don-diff, sprop-depack-buf-nalus, sprop-depack-buf-bytes and depack-buf-cap
+    usage.Sending ∷ usage.Sending ∷ usage.Sending ∷ usage.Receiving ∷
+    -- sprop-segmentation-id, sprop-spatial-segmentation-idc, dec-parallel-cap and include-dph
+    usage.Sending ∷ usage.Sending ∷ usage.Receiving ∷ usage.Receiving ∷ []
 
 abbrev pub by : LevelRows
 by = record {
@@ -80,6 +105,11 @@ abbrev pub terms : AnswerRules → FormatParameters → FormatParameters → Opt
 terms rules offered own =
     if agree rules offered own then terms_by_level rows by offered own else None
 
+-- the same in multicast, at the offered level, which ours isn't below
+abbrev pub multicast_terms : AnswerRules → FormatParameters → FormatParameters → Option Terms
+multicast_terms which offered own =
+    if keeps_level rows by offered own then terms which offered own else None
+
 -- packets bear decoding order numbers
 abbrev pub reorders : FormatParameters → Bool
 reorders it = is_positive (number_or_default rows it (row_place p.SpropMaxDonDiff))
@@ -92,4 +122,5 @@ rules which = record {
   known = own.known;
   fault = own.fault;
   reorders = reorders;
+  usages = usages;
 }

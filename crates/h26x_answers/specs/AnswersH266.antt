@@ -5,12 +5,14 @@ use Rattle.h26x_fmtp.specs.declared.kind.Kind.TheVariants.{Units}
 use Rattle.h26x_fmtp.specs.UnitTypes.{h266_vps}
 use Rattle.h26x_answers.specs.declared.answer.Role.{Role}
 use Rattle.h26x_answers.specs.declared.answer.Role.TheVariants as role
+use Rattle.h26x_answers.specs.declared.direction.Usage.{Usage}
+use Rattle.h26x_answers.specs.declared.direction.Usage.TheVariants as usage
 use Rattle.h26x_sdp.specs.declared.h266.H266Parameter.TheVariants as p
 use Rattle.h26x_fmtp.specs.Reading.{FormatParameters, value_at, number_or_default}
 use Rattle.h26x_sdp.specs.H266Rows.{rows, row_place}
 use Rattle.h26x_answers.specs.OwnH266 as own
 use Rattle.h26x_answers.specs.Answers.{Terms, Rules, same_number, same_if_given, only_if}
-use Rattle.h26x_answers.specs.AnswersByLevel.{LevelRows, is_positive, terms_by_level}
+use Rattle.h26x_answers.specs.AnswersByLevel.{LevelRows, is_positive, keeps_level, terms_by_level}
 
 -- what each parameter is in an offer and its answer (figure 11), in the order of the table
 abbrev pub roles : List Role
@@ -29,6 +31,24 @@ roles =
     role.Own ∷ role.Own ∷
     -- sprop-max-don-diff, sprop-depack-buf-bytes and depack-buf-cap
     role.Own ∷ role.Own ∷ role.Own ∷ []
+
+-- in which directions each parameter is usable (figure 11), in the order of the table
+abbrev pub usages : List Usage
+usages =
+    -- profile-id, tier-flag, sub-profile-id and interop-constraints
+    usage.Always ∷ usage.Always ∷ usage.Always ∷ usage.Always ∷
+    -- level-id
+    usage.Always ∷
+    -- sprop-sublayer-id, sprop-ols-id, recv-sublayer-id and recv-ols-id
+    usage.Sending ∷ usage.Sending ∷ usage.Receiving ∷ usage.Receiving ∷
+    -- max-recv-level-id
+    usage.Receiving ∷
+    -- sprop-dci, sprop-vps, sprop-sps, sprop-pps and sprop-sei
+    usage.Sending ∷ usage.Sending ∷ usage.Sending ∷ usage.Sending ∷ usage.Sending ∷
+    -- max-lsr and max-fps
+    usage.Receiving ∷ usage.Receiving ∷
+    -- sprop-max-don-diff, sprop-depack-buf-bytes and depack-buf-cap
+    usage.Sending ∷ usage.Sending ∷ usage.Receiving ∷ []
 
 -- no parameter says how many units are to be held, so that of the bytes stands for it
 abbrev pub by : LevelRows
@@ -65,6 +85,11 @@ abbrev pub terms : FormatParameters → FormatParameters → Option Terms
 terms offered own =
     option_and_then (if_keeps_vps offered own) (terms_by_level rows by offered own)
 
+-- the same in multicast, at the offered level, which ours isn't below
+abbrev pub multicast_terms : FormatParameters → FormatParameters → Option Terms
+multicast_terms offered own =
+    if keeps_level rows by offered own then terms offered own else None
+
 -- packets bear decoding order numbers
 abbrev pub reorders : FormatParameters → Bool
 reorders it = is_positive (number_or_default rows it (row_place p.SpropMaxDonDiff))
@@ -77,4 +102,5 @@ rules = record {
   known = own.known;
   fault = own.fault;
   reorders = reorders;
+  usages = usages;
 }

@@ -1,3 +1,4 @@
+pub mod Directions
 pub mod Answers
 pub mod AnswersViews
 pub mod AnswersH264
@@ -15,3 +16,9 @@ pub mod OwnH266
 pub mod ConfigurationsH264
 pub mod ConfigurationsH265
 pub mod ConfigurationsH266
+pub mod OperationPoints
+pub mod OwnLaws
+pub mod DirectionLaws
+pub mod Agreed
+pub mod DeclaredFormats
+pub mod Multicast

@@ -1,5 +1,5 @@
 -- Formats of H.265 that RFC 7798, section 7.1, lets an end say of itself.
-use Rattle.std.specs.Prelude.{ℕ, ◌==◌, nat_le, nat_lt, Bool, false, not, ◌&&◌, ◌||◌, if◌then◌else◌, List, [], ◌∷◌, find, Option, Some, None, is_some}
+use Rattle.std.specs.Prelude.{ℕ, ◌==◌, nat_le, nat_lt, length, Bool, false, not, ◌&&◌, ◌||◌, if◌then◌else◌, List, [], ◌∷◌, find, Option, Some, None, is_some, is_none}
 use Rattle.std.specs.Option.{option_or}
 use Rattle.h26x_profile.specs.H265.{profile_of}
 use Rattle.h26x_answers.specs.declared.fault.FormatFault.{FormatFault}
@@ -7,11 +7,15 @@ use Rattle.h26x_answers.specs.declared.fault.FormatFault.TheVariants as faults
 use Rattle.h26x_answers.specs.declared.answer.own_h265.TieredLimits.{TieredLimits}
 use Rattle.h26x_sdp.specs.declared.h265.H265Parameter.{H265Parameter}
 use Rattle.h26x_sdp.specs.declared.h265.H265Parameter.TheVariants as p
-use Rattle.h26x_fmtp.specs.Reading.{FormatParameters, number_at, number_or_default}
+use Rattle.std.specs.List.{list_all}
+use Rattle.h26x_fmtp.specs.declared.kind.Kind.TheVariants.{Number}
+use Rattle.h26x_fmtp.specs.Kinds.{fault_in}
+use Rattle.h26x_fmtp.specs.Units.{pieces}
+use Rattle.h26x_fmtp.specs.Reading.{FormatParameters, value_at, number_at, number_or_default}
 use Rattle.h26x_sdp.specs.H265Rows.{rows, row_place}
 use Rattle.h26x_answers.specs.Answers.{same_number}
 use Rattle.h26x_answers.specs.AnswersByLevel.{is_positive}
-use Rattle.h26x_answers.specs.Faults.{fault_below}
+use Rattle.h26x_answers.specs.Faults.{fault_below, fault_outside}
 
 abbrev pub limits_with : ℕ → ℕ × ℕ → ℕ × ℕ → ℕ × ℕ → ℕ × ℕ → TieredLimits
 limits_with level samples tiles main high = record {
@@ -54,21 +58,24 @@ number it parameter = number_or_default rows it (row_place parameter)
 abbrev pub below : FormatParameters → H265Parameter → ℕ → Option FormatFault
 below it parameter least = fault_below rows it (row_place parameter) least
 
+abbrev pub outside : FormatParameters → H265Parameter → ℕ → Option FormatFault
+outside it parameter least = fault_outside rows it (row_place parameter) least
+
 -- MaxCPB and MaxBR in a format's tier
 abbrev pub of_tier : FormatParameters → TieredLimits → ℕ × ℕ
 of_tier it level = if same_number (number it p.TierFlag) (Some 1) then level.high else level.main
 
--- the first limit that is below what the highest level asks for, with MaxCPB and MaxBR; six pictures
--- are decoded at least
-abbrev pub first_below_in : FormatParameters → TieredLimits → ℕ → ℕ → Option FormatFault
-first_below_in it level cpb br =
-    option_or (option_or (option_or (option_or (option_or (option_or (below it p.MaxLsr level.lsr)
-    (below it p.MaxLps level.lps)) (below it p.MaxCpb cpb)) (below it p.MaxDpb 6))
-    (below it p.MaxBr br)) (below it p.MaxTr level.tiles.0)) (below it p.MaxTc level.tiles.1)
+-- the first limit that is below what the highest level asks for, or more than 16 times that, with
+-- MaxCPB and MaxBR; six pictures are decoded at least
+abbrev pub first_outside_in : FormatParameters → TieredLimits → ℕ → ℕ → Option FormatFault
+first_outside_in it level cpb br =
+    option_or (option_or (option_or (option_or (option_or (option_or (outside it p.MaxLsr level.lsr)
+    (outside it p.MaxLps level.lps)) (outside it p.MaxCpb cpb)) (below it p.MaxDpb 6))
+    (outside it p.MaxBr br)) (outside it p.MaxTr level.tiles.0)) (outside it p.MaxTc level.tiles.1)
 
 -- the same in the format's tier
-abbrev pub first_below : FormatParameters → TieredLimits → Option FormatFault
-first_below it level = first_below_in it level (of_tier it level).0 (of_tier it level).1
+abbrev pub first_outside : FormatParameters → TieredLimits → Option FormatFault
+first_outside it level = first_outside_in it level (of_tier it level).0 (of_tier it level).1
 
 -- where packets bear decoding order numbers the units and the bytes that are to be held are told
 abbrev pub reordering_fault : FormatParameters → Option FormatFault
@@ -76,10 +83,23 @@ reordering_fault it = if not (is_positive (number it p.SpropMaxDonDiff))
     || (is_positive (number it p.SpropDepackBufNalus)
     && is_positive (number it p.SpropDepackBufBytes)) then None else Some faults.Reordering
 
--- limits and reordering, at the highest level that is received
+-- a type of hash is a number from 0 to 255
+abbrev pub is_hash_type : List ℕ → Bool
+is_hash_type text = is_none (fault_in (Number 0 255) text)
+
+-- include-dph is a list of such types, which may be empty
+abbrev pub are_hash_types : List ℕ → Bool
+are_hash_types text = (length text == 0) || list_all is_hash_type (pieces text)
+
+abbrev pub hash_types_fault : Option (List ℕ) → Option FormatFault
+hash_types_fault None = None
+hash_types_fault (Some text) = if are_hash_types text then None else Some faults.HashTypes
+
+-- limits, reordering and types of hashes, at the highest level that is received
 abbrev pub fault_at : FormatParameters → Option TieredLimits → Option FormatFault
 fault_at it None = Some faults.HighestLevel
-fault_at it (Some level) = option_or (first_below it level) (reordering_fault it)
+fault_at it (Some level) = option_or (option_or (first_outside it level) (reordering_fault it))
+    (hash_types_fault (value_at it.values (row_place p.IncludeDph)))
 
 -- max-recv-level-id is above the level
 abbrev pub fault_with : FormatParameters → ℕ → Option ℕ → Option FormatFault
@@ -113,6 +133,6 @@ fault_of_level it (Some level) =
     if is_some (limits_of level) then fault_received it level else Some faults.Level
 
 -- the first rule that a format of one's own breaks: its profile, its level, the highest one, its
--- limits, and what it says of packets out of order
+-- limits, what it says of packets out of order, and the types of hashes
 abbrev pub fault : FormatParameters → Option FormatFault
 fault it = if has_profile it then fault_of_level it (number it p.LevelId) else Some faults.Profile

@@ -1,5 +1,6 @@
 -- Formats of H.266 that RFC 9328, section 7.2, lets an end say of itself.
-use Rattle.std.specs.Prelude.{ℕ, nat_lt, Bool, true, false, not, ◌&&◌, ◌||◌, if◌then◌else◌, Option, Some, None, is_some}
+use Rattle.std.specs.Prelude.{ℕ, ◌==◌, nat_lt, Bool, true, false, not, ◌&&◌, ◌||◌, if◌then◌else◌, List, [], ◌∷◌, find, Option, Some, None, is_some}
+use Rattle.std.specs.Option.{option_map, option_or}
 use Rattle.h26x_profile.specs.H266.{profile_of, level_of}
 use Rattle.h26x_answers.specs.declared.fault.FormatFault.{FormatFault}
 use Rattle.h26x_answers.specs.declared.fault.FormatFault.TheVariants as faults
@@ -8,6 +9,7 @@ use Rattle.h26x_sdp.specs.declared.h266.H266Parameter.TheVariants as p
 use Rattle.h26x_fmtp.specs.Reading.{FormatParameters, number_at, number_or_default}
 use Rattle.h26x_sdp.specs.H266Rows.{rows, row_place}
 use Rattle.h26x_answers.specs.AnswersByLevel.{is_positive}
+use Rattle.h26x_answers.specs.Faults.{fault_outside}
 
 abbrev pub number : FormatParameters → H266Parameter → Option ℕ
 number it parameter = number_or_default rows it (row_place parameter)
@@ -34,16 +36,43 @@ abbrev pub is_received_above : FormatParameters → Bool
 is_received_above it =
     is_above (number it p.LevelId) (number_at rows it (row_place p.MaxRecvLevelId))
 
+-- how many luma samples a decoder of each level takes in a second, MaxLumaSr (Rec. ITU-T H.266, table
+-- A.2); level 15.5, 255, has no most
+abbrev pub luma_rates : List (ℕ × ℕ)
+luma_rates =
+    (16, 552960) ∷ (32, 3686400) ∷ (35, 7372800) ∷ (48, 16588800) ∷ (51, 33177600) ∷
+    (64, 66846720) ∷ (67, 133693440) ∷ (80, 267386880) ∷ (83, 534773760) ∷ (86, 1069547520) ∷
+    (96, 1069547520) ∷ (99, 2139095040) ∷ (102, 4278190080) ∷ (105, 4812963840) ∷ []
+
+abbrev pub luma_rate_of : ℕ → Option ℕ
+luma_rate_of level = option_map (λ it. it.1) (find (λ it. it.0 == level) luma_rates)
+
+abbrev pub rate_fault_at : FormatParameters → Option ℕ → Option FormatFault
+rate_fault_at it None = None
+rate_fault_at it (Some rate) = fault_outside rows it (row_place p.MaxLsr) rate
+
+-- max-lsr is from MaxLumaSr of the highest level to 16 times that
+abbrev pub rate_fault : FormatParameters → Option ℕ → Option FormatFault
+rate_fault it None = None
+rate_fault it (Some level) = rate_fault_at it (luma_rate_of level)
+
+abbrev pub highest_level : FormatParameters → Option ℕ
+highest_level it =
+    option_or (number_at rows it (row_place p.MaxRecvLevelId)) (number it p.LevelId)
+
 -- where packets bear decoding order numbers the bytes that are to be held are told
 abbrev pub reordering_fits : FormatParameters → Bool
 reordering_fits it = not (is_positive (number it p.SpropMaxDonDiff))
     || is_positive (number it p.SpropDepackBufBytes)
 
--- the first rule that a format of one's own breaks: its profile, its level, the highest one, and what
--- it says of packets out of order
+abbrev pub reordering_fault : FormatParameters → Option FormatFault
+reordering_fault it = if reordering_fits it then None else Some faults.Reordering
+
+-- the first rule that a format of one's own breaks: its profile, its level, the highest one, its limit,
+-- and what it says of packets out of order
 abbrev pub fault : FormatParameters → Option FormatFault
 fault it =
     if not (is_profile (number it p.ProfileId)) then Some faults.Profile
     else (if not (is_level (number it p.LevelId)) then Some faults.Level
     else (if not (is_received_above it) then Some faults.HighestLevel
-    else (if reordering_fits it then None else Some faults.Reordering)))
+    else option_or (rate_fault it (highest_level it)) (reordering_fault it)))

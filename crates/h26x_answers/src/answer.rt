@@ -8,6 +8,7 @@ pub(crate) mod h266;
 pub(crate) mod own_h264;
 pub(crate) mod own_h265;
 pub(crate) mod own_h266;
+mod usable;
 
 ghost use Rattle.std.specs.Prelude.{◌≡◌, Bool, List, Option, IfOk, length, map, vec_len};
 ghost use Rattle.std.specs.Option.{option_map, option_or};
@@ -17,6 +18,8 @@ ghost use Rattle.h26x_fmtp.specs.Reading as reading;
 ghost use Rattle.h26x_fmtp.specs.ParametersViews.{view, value_view, slice_view, values_view, other_view, others_view};
 ghost use Rattle.h26x_fmtp.specs.TableViews.{row_view};
 
+use crate::answer::usable::{heard, usable};
+use crate::direction::{Direction, Usage};
 use crate::fault::FormatFault;
 use h26x_fmtp::{FormatParameters, Kind, OtherParameter, ParameterRow, same_name};
 use h26x_sdp::{CodecParameter, CodecParameters};
@@ -56,10 +59,14 @@ pub trait CodecRules: CodecParameter {
     ghost use Rattle.h26x_answers.specs.declared.answer.Role.{Role};
     ghost use Rattle.h26x_answers.specs.declared.answer.AnswerRules.{AnswerRules};
     ghost use Rattle.h26x_answers.specs.declared.fault.FormatFault.{FormatFault};
+    ghost use Rattle.h26x_answers.specs.declared.direction.Usage.{Usage};
 
     ghost roles: { List Role };
 
     ghost terms: { AnswerRules → reading.FormatParameters → reading.FormatParameters
+        → Option spec.Terms };
+
+    ghost multicast_terms: { AnswerRules → reading.FormatParameters → reading.FormatParameters
         → Option spec.Terms };
 
     ghost known: { AnswerRules → reading.FormatParameters → Bool };
@@ -68,9 +75,16 @@ pub trait CodecRules: CodecParameter {
 
     ghost reorders: { reading.FormatParameters → Bool };
 
+    ghost usages: { List Usage };
+
     /// What each parameter is, in the order of the table.
     fn roles() -> &'static [Role]
         ensures roles { result.now ≡ roles }
+        ensures long { length result.now ≡ length Self.rows };
+
+    /// In which directions each parameter is usable, in the order of the table.
+    fn usages() -> &'static [Usage]
+        ensures usages { result.now ≡ usages }
         ensures long { length result.now ≡ length Self.rows };
 
     /// The terms of an offered format and one of ours, whose configuration is one; `None` where they
@@ -82,6 +96,16 @@ pub trait CodecRules: CodecParameter {
         own: &CodecParameters<Self>,
     ) -> Result<Option<Terms>, AllocError>
         ensures { IfOk result (λ it. option_map terms_view it ≡ terms rules offered.now own.now) };
+
+    /// The same in multicast: at the offered level, and `None` where ours is below it.
+    fn multicast_terms(
+        alloc: Global,
+        rules: AnswerRules,
+        offered: &CodecParameters<Self>,
+        own: &CodecParameters<Self>,
+    ) -> Result<Option<Terms>, AllocError>
+        ensures { IfOk result (λ it. option_map terms_view it
+            ≡ multicast_terms rules offered.now own.now) };
 
     /// Whether a format's profile and level are those of a table.
     fn is_known(rules: AnswerRules, it: &CodecParameters<Self>) -> bool
@@ -120,6 +144,11 @@ pub struct AnswerConfig {
     pub any_order: bool,
     /// By which rules it reads and compares formats: those of the RFCs unless others are asked for.
     pub rules: AnswerRules,
+    /// The direction of the answer, as its end writes it: both ways unless another is asked for.
+    pub direction: Direction,
+    /// Whether media go by multicast, where no answer changes the level: it keeps the offered one, and
+    /// there is none where ours is below it. Otherwise by unicast.
+    pub multicast: bool,
 }
 
 /// What two formats of one configuration agree on.
@@ -226,7 +255,7 @@ fn is_symmetric_at(
 }
 
 /// Whether the configuration of two formats is one.
-fn are_symmetric(
+pub(crate) fn are_symmetric(
     roles: &[Role],
     rows: &[ParameterRow],
     offered: &FormatParameters,
@@ -358,7 +387,7 @@ fn answered<P: CodecRules>(
     terms: &Terms,
 ) -> Result<CodecParameters<P>, AllocError>
     ensures { IfOk result (λ it. it ≡ spec.answered (spec.rules_of rules P.rows P.roles P.terms
-        P.known P.fault P.reorders) offered.now own.now (terms_view terms.now)) }
+        P.known P.fault P.reorders P.usages) offered.now own.now (terms_view terms.now)) }
 {
     let (o, u) = (offered.parameters(), own.parameters());
     let parameters = FormatParameters {
@@ -371,12 +400,13 @@ fn answered<P: CodecRules>(
 /// The terms of two formats, if they are of one configuration.
 fn common_terms<P: CodecRules>(
     alloc: Global,
-    rules: AnswerRules,
+    config: AnswerConfig,
     offered: &CodecParameters<P>,
     own: &CodecParameters<P>,
 ) -> Result<Option<Terms>, AllocError>
     ensures { IfOk result (λ it. option_map terms_view it ≡ spec.common_terms
-        (spec.rules_of rules P.rows P.roles P.terms P.known P.fault P.reorders) offered.now own.now) }
+        (spec.rules_in config P.rows P.roles P.terms P.multicast_terms P.known P.fault P.reorders
+        P.usages) offered.now own.now) }
 {
     if !are_symmetric(
         P::roles(),
@@ -386,21 +416,25 @@ fn common_terms<P: CodecRules>(
     ) {
         return Ok(None);
     }
-    P::terms(alloc, rules, offered, own)
+    if config.multicast {
+        P::multicast_terms(alloc, config.rules, offered, own)
+    } else {
+        P::terms(alloc, config.rules, offered, own)
+    }
 }
 
 /// The answer to an offered format by one of ours.
 fn answer_by<P: CodecRules>(
     alloc: Global,
-    rules: AnswerRules,
+    config: AnswerConfig,
     offered: &CodecParameters<P>,
     own: &CodecParameters<P>,
 ) -> Result<Option<CodecParameters<P>>, AllocError>
-    ensures { IfOk result (λ it. it ≡ spec.answer_by (spec.rules_of rules P.rows P.roles P.terms
-        P.known P.fault P.reorders) offered.now own.now) }
+    ensures { IfOk result (λ it. it ≡ spec.answer_by (spec.rules_in config P.rows P.roles P.terms
+        P.multicast_terms P.known P.fault P.reorders P.usages) offered.now own.now) }
 {
-    match common_terms(alloc, rules, offered, own)? {
-        Some(terms) => Ok(Some(answered(alloc, rules, offered, own, &terms)?)),
+    match common_terms(alloc, config, offered, own)? {
+        Some(terms) => Ok(Some(answered(alloc, config.rules, offered, own, &terms)?)),
         None => Ok(None),
     }
 }
@@ -413,7 +447,7 @@ pub fn own_fault<P: CodecRules>(
     own: &CodecParameters<P>,
 ) -> Option<FormatFault>
     ensures { result ≡ spec.own_fault (spec.rules_of config.rules P.rows P.roles P.terms P.known P.fault
-        P.reorders) config own.now }
+        P.reorders P.usages) config own.now }
 {
     match P::fault(config.rules, own) {
         Some(fault) => Some(fault),
@@ -423,36 +457,77 @@ pub fn own_fault<P: CodecRules>(
 }
 
 /// The answer to an offered format of a profile and a level that a table has, in an order of units that
-/// the caller takes, by one of ours that breaks no rule.
+/// the caller takes.
+fn known_answer<P: CodecRules>(
+    alloc: Global,
+    config: AnswerConfig,
+    offered: &CodecParameters<P>,
+    own: &CodecParameters<P>,
+) -> Result<Option<CodecParameters<P>>, AllocError>
+    ensures { IfOk result (λ it. it ≡ spec.known_answer (spec.rules_in config P.rows P.roles
+        P.terms P.multicast_terms P.known P.fault P.reorders P.usages) config offered.now own.now) }
+{
+    let is_ordered = config.any_order || !P::reorders(offered);
+    if !P::is_known(config.rules, offered) || !is_ordered {
+        return Ok(None);
+    }
+    answer_by(alloc, config, offered, own)
+}
+
+/// The same of what is heard of both in their directions.
+fn heard_answer<P: CodecRules>(
+    alloc: Global,
+    config: AnswerConfig,
+    offered: &CodecParameters<P>,
+    own: &CodecParameters<P>,
+) -> Result<Option<CodecParameters<P>>, AllocError>
+    ensures { IfOk result (λ it. it ≡ spec.heard_answer (spec.rules_in config P.rows P.roles
+        P.terms P.multicast_terms P.known P.fault P.reorders P.usages) config offered.now own.now) }
+{
+    match config.direction {
+        Direction::SendRecv => known_answer(alloc, config, offered, own),
+        direction => {
+            let theirs = heard(alloc, direction.opposite(), offered)?;
+            let ours = heard(alloc, direction, own)?;
+            known_answer(alloc, config, &theirs, &ours)
+        }
+    }
+}
+
+/// The answer to an offered format in the directions of both, by one of ours that breaks no rule.
 fn allowed_answer<P: CodecRules>(
     alloc: Global,
     config: AnswerConfig,
     offered: &CodecParameters<P>,
     own: &CodecParameters<P>,
 ) -> Result<Option<CodecParameters<P>>, AllocError>
-    ensures { IfOk result (λ it. it ≡ spec.allowed_answer (spec.rules_of config.rules P.rows P.roles
-        P.terms P.known P.fault P.reorders) config offered.now own.now) }
+    ensures { IfOk result (λ it. it ≡ spec.allowed_answer (spec.rules_in config P.rows P.roles
+        P.terms P.multicast_terms P.known P.fault P.reorders P.usages) config offered.now own.now) }
 {
-    let is_ordered = config.any_order || !P::reorders(offered);
-    if !P::is_known(config.rules, offered) || !is_ordered || own_fault(config, own).is_some() {
+    if own_fault(config, own).is_some() {
         return Ok(None);
     }
-    answer_by(alloc, config.rules, offered, own)
+    match heard_answer(alloc, config, offered, own)? {
+        Some(answer) => Ok(Some(usable(alloc, config, answer)?)),
+        None => Ok(None),
+    }
 }
 
 /// The answer to the parameters of an offered format, by the first of ours that gives one; `None`
 /// where none does, and where the standard has no such profile or level, or units may be sent in
 /// another order than the caller takes. One of ours that breaks a rule gives none ([`own_fault`] tells
-/// it). It is for both directions, and for unicast (RFC 6184, section 8.2.2; RFC 7798, section 7.2.2;
-/// RFC 9328, section 7.3.2).
+/// it). It is for unicast, or for multicast where `config.multicast` says so (RFC 6184, section 8.2.2;
+/// RFC 7798, section 7.2.2; RFC 9328, section 7.3.2), in the answer's direction `config.direction` and
+/// the offer's opposite one: what isn't usable there is ignored, of the offer and of ours, and doesn't
+/// stand in the answer.
 pub fn answer_format<P: CodecRules>(
     alloc: Global,
     config: AnswerConfig,
     offered: &CodecParameters<P>,
     ours: &[CodecParameters<P>],
 ) -> Result<Option<CodecParameters<P>>, AllocError>
-    ensures { IfOk result (λ it. it ≡ spec.answer_of (spec.rules_of config.rules P.rows P.roles
-        P.terms P.known P.fault P.reorders) config offered.now ours.now) }
+    ensures { IfOk result (λ it. it ≡ spec.answer_of (spec.rules_in config P.rows P.roles
+        P.terms P.multicast_terms P.known P.fault P.reorders P.usages) config offered.now ours.now) }
 {
     for own in ours {
         if let Some(answer) = allowed_answer(alloc, config, offered, own)? {
@@ -478,8 +553,8 @@ pub fn answer_to<P: CodecRules>(
     offer: &[Format<P>],
     ours: &[CodecParameters<P>],
 ) -> Result<Option<Format<P>>, AllocError>
-    ensures { IfOk result (λ it. it ≡ spec.offer_answer (spec.rules_of config.rules P.rows P.roles
-        P.terms P.known P.fault P.reorders) config offer.now ours.now) }
+    ensures { IfOk result (λ it. it ≡ spec.offer_answer (spec.rules_in config P.rows P.roles
+        P.terms P.multicast_terms P.known P.fault P.reorders P.usages) config offer.now ours.now) }
 {
     for format in offer {
         if let Some(parameters) = answer_format(alloc, config, &format.parameters, ours)? {

@@ -5,11 +5,18 @@ ghost use Rattle.h26x_fmtp.specs.Parameters.{AreParameters, IsReadAgain};
 ghost use Rattle.h26x_fmtp.specs.Reading.{FormatParameters};
 ghost use Rattle.h26x_answers.specs.declared.answer.AnswerRules.{AnswerRules};
 ghost use Rattle.h26x_answers.specs.AnswerLaws.{IsCommonAnswered, IsAnswerCommon, OfEachAnswer, SaysOrder};
+ghost use Rattle.h26x_answers.specs.Agreed as agreed;
+ghost use Rattle.h26x_answers.specs.Agreed.{IsSeenByBoth, AreWithinReceived};
+ghost use Rattle.h26x_answers.specs.DeclaredFormats as declared;
+ghost use Rattle.h26x_answers.specs.DeclaredFormats.{OfEachAccepted, IsReceivedH264};
+ghost use Rattle.h26x_answers.specs.Answers.{Rules};
+ghost use Rattle.h26x_answers.specs.DirectionLaws.{IsByUsable, OfEachAnswerIn, OfEachDirected, IsWholeBothWays};
 ghost use Rattle.h26x_answers.specs.AnswersH264 as h264_answers;
 ghost use Rattle.h26x_answers.specs.AllowedH264.{IsH264Answer, MaySend, CanDeinterleaveOwn, is_sets_row};
 ghost use Rattle.h26x_answers.specs.AnsweredAgain.{AreAnsweredAgain};
 ghost use Rattle.h26x_answers.specs.AllowedByLevel.{IsAnswerByLevel, OfEachAllowed, MaySendByLevel};
 ghost use Rattle.h26x_answers.specs.AnswersByLevel.{can_hold};
+ghost use Rattle.h26x_answers.specs.Multicast.{h264_in_multicast, h265_in_multicast, h266_in_multicast, KeepsLevel, IsOfUnicast};
 ghost use Rattle.h26x_answers.specs.ConfigurationsH264 as h264_said;
 ghost use Rattle.h26x_answers.specs.ConfigurationsH265 as h265_said;
 ghost use Rattle.h26x_answers.specs.ConfigurationsH266 as h266_said;
@@ -110,4 +117,75 @@ pub fn answers_by_level_are_answered_with_themselves()
         (λ own _. can_hold h265.rows h265_answers.by own own ≡ true) }
     ensures h266 { AreAnsweredAgain h266_answers.rules (λ _. false)
         (λ own _. can_hold h266.rows h266_answers.by own own ≡ true) }
+{}
+
+/// An answer in a direction is that to what both ends are heard to say in theirs: what isn't usable of
+/// an offer changes nothing, and nothing stands in an answer that isn't usable in its direction (RFC
+/// 6184, section 8.2.2, table 6; RFC 7798, section 7.2.2, table 1; RFC 9328, section 7.3.2.3, figure
+/// 11). So it is by offer and ours, by what is usable of them; both ways all of it is.
+pub fn answers_by_direction()
+    ensures h264_usable { (by : AnswerRules) → IsByUsable (h264_answers.rules by) }
+    ensures h265_usable { (by : AnswerRules) → IsByUsable (h265_answers.rules by) }
+    ensures h266_usable { IsByUsable h266_answers.rules }
+    ensures h264 { (by : AnswerRules) →
+        OfEachDirected (h264_answers.rules by) (h264_said.IsOurAnswer by) }
+    ensures h265 { (by : AnswerRules) →
+        OfEachDirected (h265_answers.rules by) (h265_said.IsOurAnswer by) }
+    ensures h266 { OfEachDirected h266_answers.rules h266_said.IsOurAnswer }
+    ensures both_ways { (rules : Rules) → IsWholeBothWays rules }
+{}
+
+/// An answer in a direction is one that the RFC allows of what is heard of the offer there.
+pub fn directed_answers_are_allowed()
+    ensures h264 { (by : AnswerRules) → OfEachDirected (h264_answers.rules by)
+        (λ offered _ answer. IsH264Answer by offered answer) }
+    ensures h265 { (by : AnswerRules) → OfEachDirected (h265_answers.rules by)
+        (λ offered _ answer. IsAnswerByLevel (h265_answers.rules by) h265_answers.by offered
+        answer) }
+    ensures h266 { OfEachDirected h266_answers.rules
+        (λ offered _ answer. IsAnswerByLevel h266_answers.rules h266_answers.by offered answer) }
+{}
+
+/// An answer in a direction is parameters of its codec, and once it's written it is read as the same.
+pub fn directed_answers_are_read()
+    ensures h264 { (by : AnswerRules) → OfEachAnswerIn (h264_answers.rules by)
+        (λ _ _ _ answer. IsReadAgain h264.rows answer) }
+    ensures h265 { (by : AnswerRules) → OfEachAnswerIn (h265_answers.rules by)
+        (λ _ _ _ answer. IsReadAgain h265.rows answer) }
+    ensures h266 { OfEachAnswerIn h266_answers.rules
+        (λ _ _ _ answer. IsReadAgain h266.rows answer) }
+{}
+
+/// An answer of multicast keeps the offered level (RFC 6184, section 8.2.2; RFC 7798, section 7.2.2;
+/// RFC 9328, section 7.3.2), in each direction, and is that of unicast, of H.264 where not both ends
+/// allow each direction its own level.
+pub fn multicast_answers_keep_the_level()
+    ensures h264 { (by : AnswerRules) → OfEachDirected (h264_in_multicast by)
+        (λ offered _ answer. KeepsLevel 0 offered answer) }
+    ensures h265 { (by : AnswerRules) → OfEachDirected (h265_in_multicast by)
+        (λ offered _ answer. KeepsLevel h265_answers.by.level offered answer) }
+    ensures h266 { OfEachDirected h266_in_multicast
+        (λ offered _ answer. KeepsLevel h266_answers.by.level offered answer) }
+    ensures h264_unicast { (by : AnswerRules) → OfEachAnswer (h264_in_multicast by)
+        (λ offered own answer. h264_answers.both_asymmetric offered own ≡ false →
+        IsOfUnicast (h264_answers.rules by) offered own answer) }
+    ensures h265_unicast { (by : AnswerRules) → OfEachAnswer (h265_in_multicast by)
+        (IsOfUnicast (h265_answers.rules by)) }
+    ensures h266_unicast { OfEachAnswer h266_in_multicast (IsOfUnicast h266_answers.rules) }
+{}
+
+/// What one end sends is what the other receives, by what both wrote, and of H.264 it's of a level that
+/// the receiver says that it receives.
+pub fn agreed_streams_are_seen_by_both()
+    ensures h264 { (by : AnswerRules) → IsSeenByBoth (agreed.h264_stream by) }
+    ensures h265 { IsSeenByBoth (λ _. agreed.h265_stream) }
+    ensures h266 { IsSeenByBoth (λ _. agreed.h266_stream) }
+    ensures within { (by : AnswerRules) → AreWithinReceived by }
+{}
+
+/// Of a declared format of H.264 that one of ours receives, this one receives whatever it says (RFC
+/// 6184, section 8.2.3).
+pub fn declared_formats_are_received()
+    ensures { (by : AnswerRules) → OfEachAccepted (h264_answers.rules by) (declared.h264_takes by)
+        (IsReceivedH264 by) }
 {}

@@ -4,12 +4,24 @@
 //! The definitions that contracts cite stand in `specs/`.
 #![tactic(auto)]
 
+mod agreed;
 mod answer;
 mod cases;
+pub mod choice_laws;
+mod declared;
+mod direction;
+mod direction_cases;
 mod fault;
 pub mod laws;
+mod multicast_cases;
+mod own_cases;
+pub mod own_laws;
+mod term_cases;
 
+pub use agreed::{Agreed, AgreedSets, AgreedStream, CodecStreams, agreed_streams};
 pub use answer::{
     AnswerConfig, AnswerRules, CodecRules, Format, Role, Terms, answer_format, answer_to, own_fault,
 };
+pub use declared::{CodecDeclared, accepts_declared};
+pub use direction::{Direction, Usage};
 pub use fault::FormatFault;

@@ -9,6 +9,7 @@
 #![tactic(auto)]
 
 mod bit_pattern;
+mod cases;
 mod fmtp;
 mod h264;
 mod h264_profile_level;

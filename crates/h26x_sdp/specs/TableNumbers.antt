@@ -21,3 +21,15 @@ bounds_of Text = None
 -- those that are numbers, with the least and the most
 abbrev pub bounds : List ParameterRow → List (List ℕ × ℕ × ℕ)
 bounds rows = filter_map (λ row. option_map (λ it. (row.name, it.0, it.1)) (bounds_of row.kind)) rows
+
+-- those that aren't, with what they are
+abbrev pub text_kind : Kind → Option Kind
+text_kind (Number least most) = None
+text_kind (HexadecimalNumber most) = None
+text_kind (Hexadecimal bytes) = Some (Hexadecimal bytes)
+text_kind TxMode = Some TxMode
+text_kind (Units types) = Some (Units types)
+text_kind Text = Some Text
+
+abbrev pub texts : List ParameterRow → List (List ℕ × Kind)
+texts rows = filter_map (λ row. option_map (λ it. (row.name, it)) (text_kind row.kind)) rows

@@ -34,6 +34,7 @@
 //!
 //! The first fault is told with the place of its parameter ([`ParametersError`]).
 
+mod agreed;
 mod answer;
 mod fault;
 mod from_stream;
@@ -56,7 +57,8 @@ pub use crate::proved::h26x_sdp::{
 };
 pub use crate::proved::h26x_sdp::{ConstraintsError, LevelSetsError, RtxError};
 pub use crate::proved::h26x_stream_parameters::{StreamError, fits_single_units};
-pub use answer::{AnswerConfig, AnswerRules, Format, OutOfMemory};
+pub use agreed::{Agreed, AgreedSets, AgreedStream};
+pub use answer::{AnswerConfig, AnswerRules, Direction, Format, OutOfMemory};
 pub use fault::{BrokenRule, SetError};
 pub use h264::H264Parameters;
 pub use h265::H265Parameters;

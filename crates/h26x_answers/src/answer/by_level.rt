@@ -31,12 +31,15 @@ pub(crate) struct LevelParameters<P> {
 /// The default level and the highest.
 #[derive(Debug, Clone, Copy, PartialEq, Eq)]
 pub(crate) struct Levels {
-    level: u64,
-    highest: u64,
+    pub(crate) level: u64,
+    pub(crate) highest: u64,
 }
 
 /// The levels of parameters.
-fn levels_of<P: CodecParameter>(by: &LevelParameters<P>, it: &CodecParameters<P>) -> Option<Levels>
+pub(crate) fn levels_of<P: CodecParameter>(
+    by: &LevelParameters<P>,
+    it: &CodecParameters<P>,
+) -> Option<Levels>
     ensures { result ≡ spec.levels_of P.rows (spec.level_rows P.place by.now) it.now }
 {
     let Some(level) = it.number_or_default(by.level) else {
@@ -114,7 +117,7 @@ pub(crate) fn is_positive(number: Option<u64>) -> bool
 }
 
 /// Whether what one sends is what another can put in order.
-fn can_hold<P: CodecParameter>(
+pub(crate) fn can_hold<P: CodecParameter>(
     by: &LevelParameters<P>,
     sender: &CodecParameters<P>,
     receiver: &CodecParameters<P>,
@@ -127,6 +130,21 @@ fn can_hold<P: CodecParameter>(
     let units = sender.number_or_default(by.units);
     !is_positive(sender.number_or_default(by.difference))
         || (is_positive(units) && (is_positive(need) && holds(need, room)))
+}
+
+/// Whether our level isn't below the offered one.
+pub(crate) fn keeps_level<P: CodecParameter>(
+    by: &LevelParameters<P>,
+    offered: &CodecParameters<P>,
+    own: &CodecParameters<P>,
+) -> bool
+    ensures { result
+        ≡ spec.keeps_level P.rows (spec.level_rows P.place by.now) offered.now own.now }
+{
+    match (levels_of(by, offered), levels_of(by, own)) {
+        (Some(a), Some(b)) => a.level <= b.level,
+        _ => false,
+    }
 }
 
 /// The terms of two formats of these levels.

@@ -11,6 +11,7 @@ ghost use Rattle.h26x_answers.specs.AnswersViews.{terms_view};
 ghost use Rattle.h26x_fmtp.specs.ParametersViews.{value_view, slice_view};
 
 use crate::answer::{AnswerRules, CodecRules, Role, Terms, copy_of, holds, own_h264, same_number};
+use crate::direction::Usage;
 use crate::fault::FormatFault;
 use h26x_profile::{H264LevelIdc, H264Profile, H264ProfileIdc, H264ProfileLevel};
 use h26x_sdp::{H264Parameter, H264Parameters};
@@ -50,6 +51,41 @@ static ROLES: [Role; 23] = [
     Role::Own,
     Role::Own,
     Role::Own,
+];
+
+/// In which directions each parameter is usable, in the order of the table.
+static USAGES: [Usage; 23] = [
+    // profile-level-id and max-recv-level
+    Usage::Always,
+    Usage::Receiving,
+    // max-mbps, max-smbps, max-fs, max-cpb, max-dpb, max-br and redundant-pic-cap
+    Usage::Receiving,
+    Usage::Receiving,
+    Usage::Receiving,
+    Usage::Receiving,
+    Usage::Receiving,
+    Usage::Receiving,
+    Usage::Receiving,
+    // sprop-parameter-sets and sprop-level-parameter-sets
+    Usage::Sending,
+    Usage::Sending,
+    // use-level-src-parameter-sets, in-band-parameter-sets and level-asymmetry-allowed
+    Usage::Receiving,
+    Usage::Receiving,
+    Usage::Both,
+    // packetization-mode
+    Usage::Always,
+    // sprop-interleaving-depth, sprop-deint-buf-req and deint-buf-cap
+    Usage::Sending,
+    Usage::Sending,
+    Usage::Receiving,
+    // sprop-init-buf-time and sprop-max-don-diff
+    Usage::Sending,
+    Usage::Sending,
+    // max-rcmd-nalu-size, sar-understood and sar-supported
+    Usage::Receiving,
+    Usage::Receiving,
+    Usage::Receiving,
 ];
 
 /// The three bytes of a `profile-level-id` (RFC 6184, section 8.1).
@@ -118,6 +154,17 @@ impl ProfileLevelId {
         }
     }
 
+    /// Whether the standard has the profile_idc (Rec. ITU-T H.264, Annexes A and G to J).
+    pub(crate) fn has_profile(self) -> bool
+        ensures { result ≡ spec.is_profile self }
+    {
+        matches!(self.profile_idc, 66 | 77 | 88 | 100 | 110 | 122 | 244 | 44)
+            || matches!(
+                self.profile_idc,
+                83 | 86 | 118 | 128 | 134 | 135 | 138 | 139
+            )
+    }
+
     /// The sub-profile that table 5 of RFC 6184 has.
     fn sub_profile(self) -> Option<H264Profile>
         ensures { result ≡ spec.sub_profile self }
@@ -137,7 +184,7 @@ impl ProfileLevelId {
     }
 
     /// Whether an end of a profile takes this one, which is offered.
-    fn is_taken(self, rules: AnswerRules, own: Self) -> bool
+    pub(crate) fn is_taken(self, rules: AnswerRules, own: Self) -> bool
         ensures { result ≡ spec.takes_profile rules self own }
     {
         self.same_profile(own)
@@ -230,7 +277,7 @@ fn flagged_rank(flag: u8, level_idc: u8) -> u16
 }
 
 /// Whether a flag is 1.
-fn is_on(it: &H264Parameters, parameter: H264Parameter) -> bool
+pub(crate) fn is_on(it: &H264Parameters, parameter: H264Parameter) -> bool
     ensures { result ≡ spec.is_on it.now parameter }
 {
     same_number(it.number_or_default(parameter), Some(1))
@@ -258,7 +305,7 @@ pub(crate) fn id_of(rules: AnswerRules, it: &H264Parameters) -> Option<ProfileLe
 }
 
 /// The highest level that an end receives, as `level_rank`.
-fn highest_rank(it: &H264Parameters, id: ProfileLevelId) -> u16
+pub(crate) fn highest_rank(it: &H264Parameters, id: ProfileLevelId) -> u16
     ensures { result ≡ spec.highest_rank it.now id }
 {
     match it.value(H264Parameter::MaxRecvLevel) {
@@ -278,7 +325,7 @@ pub(crate) fn is_interleaved(it: &H264Parameters) -> bool
 }
 
 /// Whether what one sends is what another can put in order.
-fn can_deinterleave(sender: &H264Parameters, receiver: &H264Parameters) -> bool
+pub(crate) fn can_deinterleave(sender: &H264Parameters, receiver: &H264Parameters) -> bool
     ensures { result ≡ spec.can_deinterleave sender.now receiver.now }
 {
     let need = sender.number_or_default(H264Parameter::SpropDeintBufReq);
@@ -295,7 +342,7 @@ fn can_order(offered: &H264Parameters, own: &H264Parameters) -> bool
 }
 
 /// Whether both ends allow a level for each direction.
-fn both_asymmetric(offered: &H264Parameters, own: &H264Parameters) -> bool
+pub(crate) fn both_asymmetric(offered: &H264Parameters, own: &H264Parameters) -> bool
     ensures { result ≡ spec.both_asymmetric offered.now own.now }
 {
     is_on(offered, H264Parameter::LevelAsymmetryAllowed)
@@ -366,11 +413,10 @@ fn terms_at(
     asymmetric: bool,
     a: ProfileLevelId,
     b: ProfileLevelId,
+    level: ProfileLevelId,
 ) -> Result<Terms, AllocError>
-    ensures { IfOk result (λ it. terms_view it
-        ≡ spec.terms_at offered.now asymmetric a b (spec.answer_level asymmetric a b)) }
+    ensures { IfOk result (λ it. terms_view it ≡ spec.terms_at offered.now asymmetric a b level) }
 {
-    let level = answer_level(asymmetric, a, b);
     let back = rank_back(offered, asymmetric, a, level);
     Ok(Terms {
         level: answer_id(alloc, offered, a, level)?,
@@ -398,7 +444,29 @@ fn terms(
     if !(a.is_taken(rules, b) && can_order(offered, own)) {
         return Ok(None);
     }
-    Ok(Some(terms_at(alloc, offered, both_asymmetric(offered, own), a, b)?))
+    let asymmetric = both_asymmetric(offered, own);
+    let level = answer_level(asymmetric, a, b);
+    Ok(Some(terms_at(alloc, offered, asymmetric, a, b, level)?))
+}
+
+/// The same in multicast, at the offered level, which ours isn't below.
+fn multicast_terms(
+    alloc: Global,
+    rules: AnswerRules,
+    offered: &H264Parameters,
+    own: &H264Parameters,
+) -> Result<Option<Terms>, AllocError>
+    ensures { IfOk result (λ it. option_map terms_view it
+        ≡ spec.multicast_terms rules offered.now own.now) }
+{
+    let (Some(a), Some(b)) = (id_of(rules, offered), id_of(rules, own)) else {
+        return Ok(None);
+    };
+    let keeps = a.level_rank() <= b.level_rank();
+    if !(keeps && (a.is_taken(rules, b) && can_order(offered, own))) {
+        return Ok(None);
+    }
+    Ok(Some(terms_at(alloc, offered, false, a, b, a)?))
 }
 
 impl CodecRules for H264Parameter {
@@ -408,14 +476,22 @@ impl CodecRules for H264Parameter {
 
     ghost terms = { spec.terms };
 
+    ghost multicast_terms = { spec.multicast_terms };
+
     ghost known = { spec.known };
 
     ghost fault = { spec.fault };
 
     ghost reorders = { spec.is_interleaved };
 
+    ghost usages = { spec.usages };
+
     fn roles() -> &'static [Role] {
         &ROLES
+    }
+
+    fn usages() -> &'static [Usage] {
+        &USAGES
     }
 
     fn terms(
@@ -425,6 +501,15 @@ impl CodecRules for H264Parameter {
         own: &H264Parameters,
     ) -> Result<Option<Terms>, AllocError> {
         terms(alloc, rules, offered, own)
+    }
+
+    fn multicast_terms(
+        alloc: Global,
+        rules: AnswerRules,
+        offered: &H264Parameters,
+        own: &H264Parameters,
+    ) -> Result<Option<Terms>, AllocError> {
+        multicast_terms(alloc, rules, offered, own)
     }
 
     fn is_known(rules: AnswerRules, it: &H264Parameters) -> bool {

@@ -6,8 +6,9 @@ ghost use Rattle.hex.specs.Hex.{decode_sized};
 ghost use Rattle.h26x_answers.specs.AnswersH265 as spec;
 ghost use Rattle.h26x_answers.specs.AnswersViews.{terms_view};
 
-use crate::answer::by_level::{LevelParameters, is_positive, terms_by_level};
+use crate::answer::by_level::{LevelParameters, is_positive, keeps_level, terms_by_level};
 use crate::answer::{AnswerRules, CodecRules, Role, Terms, own_h265, same_if_given, same_number};
+use crate::direction::Usage;
 use crate::fault::FormatFault;
 use h26x_fmtp::Kind;
 use h26x_sdp::{H265Parameter, H265Parameters};
@@ -57,8 +58,51 @@ static ROLES: [Role; 30] = [
     Role::Own,
 ];
 
+/// In which directions each parameter is usable, in the order of the table.
+static USAGES: [Usage; 30] = [
+    // profile-space, profile-id and tier-flag
+    Usage::Always,
+    Usage::Always,
+    Usage::Always,
+    // level-id
+    Usage::Always,
+    // interop-constraints and profile-compatibility-indicator
+    Usage::Always,
+    Usage::Always,
+    // sprop-sub-layer-id and recv-sub-layer-id
+    Usage::Sending,
+    Usage::Receiving,
+    // max-recv-level-id and tx-mode
+    Usage::Receiving,
+    Usage::Always,
+    // sprop-vps, sprop-sps, sprop-pps and sprop-sei
+    Usage::Sending,
+    Usage::Sending,
+    Usage::Sending,
+    Usage::Sending,
+    // max-lsr, max-lps, max-cpb, max-dpb, max-br, max-tr, max-tc and max-fps
+    Usage::Receiving,
+    Usage::Receiving,
+    Usage::Receiving,
+    Usage::Receiving,
+    Usage::Receiving,
+    Usage::Receiving,
+    Usage::Receiving,
+    Usage::Receiving,
+    // sprop-max-don-diff, sprop-depack-buf-nalus, sprop-depack-buf-bytes and depack-buf-cap
+    Usage::Sending,
+    Usage::Sending,
+    Usage::Sending,
+    Usage::Receiving,
+    // sprop-segmentation-id, sprop-spatial-segmentation-idc, dec-parallel-cap and include-dph
+    Usage::Sending,
+    Usage::Sending,
+    Usage::Receiving,
+    Usage::Receiving,
+];
+
 /// By which parameters levels and buffers are told.
-const BY: LevelParameters<H265Parameter> = LevelParameters {
+pub(crate) const BY: LevelParameters<H265Parameter> = LevelParameters {
     level: H265Parameter::LevelId,
     highest: H265Parameter::MaxRecvLevelId,
     difference: H265Parameter::SpropMaxDonDiff,
@@ -108,7 +152,7 @@ fn same_constraints(offered: &H265Parameters, own: &H265Parameters) -> bool
 }
 
 /// Whether two formats are of one profile beside its number.
-fn agree(rules: AnswerRules, offered: &H265Parameters, own: &H265Parameters) -> bool
+pub(crate) fn agree(rules: AnswerRules, offered: &H265Parameters, own: &H265Parameters) -> bool
     ensures { result ≡ spec.agree rules offered.now own.now }
 {
     match rules {
@@ -136,6 +180,22 @@ fn terms(
     terms_by_level(alloc, &BY, offered, own)
 }
 
+/// The same in multicast, at the offered level, which ours isn't below.
+fn multicast_terms(
+    alloc: Global,
+    rules: AnswerRules,
+    offered: &H265Parameters,
+    own: &H265Parameters,
+) -> Result<Option<Terms>, AllocError>
+    ensures { IfOk result (λ it. option_map terms_view it
+        ≡ spec.multicast_terms rules offered.now own.now) }
+{
+    if !keeps_level(&BY, offered, own) {
+        return Ok(None);
+    }
+    terms(alloc, rules, offered, own)
+}
+
 impl CodecRules for H265Parameter {
     ghost use Rattle.h26x_answers.specs.AnswersH265 as spec;
     ghost use Rattle.h26x_answers.specs.OwnH265 as own;
@@ -144,14 +204,22 @@ impl CodecRules for H265Parameter {
 
     ghost terms = { spec.terms };
 
+    ghost multicast_terms = { spec.multicast_terms };
+
     ghost known = { λ _. own.known };
 
     ghost fault = { λ _. own.fault };
 
     ghost reorders = { spec.reorders };
 
+    ghost usages = { spec.usages };
+
     fn roles() -> &'static [Role] {
         &ROLES
+    }
+
+    fn usages() -> &'static [Usage] {
+        &USAGES
     }
 
     fn terms(
@@ -161,6 +229,15 @@ impl CodecRules for H265Parameter {
         own: &H265Parameters,
     ) -> Result<Option<Terms>, AllocError> {
         terms(alloc, rules, offered, own)
+    }
+
+    fn multicast_terms(
+        alloc: Global,
+        rules: AnswerRules,
+        offered: &H265Parameters,
+        own: &H265Parameters,
+    ) -> Result<Option<Terms>, AllocError> {
+        multicast_terms(alloc, rules, offered, own)
     }
 
     fn is_known(_rules: AnswerRules, it: &H265Parameters) -> bool {

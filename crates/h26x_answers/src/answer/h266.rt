@@ -5,8 +5,9 @@ ghost use Rattle.std.specs.Option.{option_map};
 ghost use Rattle.h26x_answers.specs.AnswersH266 as spec;
 ghost use Rattle.h26x_answers.specs.AnswersViews.{terms_view};
 
-use crate::answer::by_level::{LevelParameters, is_positive, terms_by_level};
+use crate::answer::by_level::{LevelParameters, is_positive, keeps_level, terms_by_level};
 use crate::answer::{AnswerRules, CodecRules, Role, Terms, own_h266, same_if_given, same_number};
+use crate::direction::Usage;
 use crate::fault::FormatFault;
 use h26x_fmtp::Kind;
 use h26x_fmtp::unit_types::H266_VPS;
@@ -44,9 +45,40 @@ static ROLES: [Role; 20] = [
     Role::Own,
 ];
 
+/// In which directions each parameter is usable, in the order of the table.
+static USAGES: [Usage; 20] = [
+    // profile-id, tier-flag, sub-profile-id and interop-constraints
+    Usage::Always,
+    Usage::Always,
+    Usage::Always,
+    Usage::Always,
+    // level-id
+    Usage::Always,
+    // sprop-sublayer-id, sprop-ols-id, recv-sublayer-id and recv-ols-id
+    Usage::Sending,
+    Usage::Sending,
+    Usage::Receiving,
+    Usage::Receiving,
+    // max-recv-level-id
+    Usage::Receiving,
+    // sprop-dci, sprop-vps, sprop-sps, sprop-pps and sprop-sei
+    Usage::Sending,
+    Usage::Sending,
+    Usage::Sending,
+    Usage::Sending,
+    Usage::Sending,
+    // max-lsr and max-fps
+    Usage::Receiving,
+    Usage::Receiving,
+    // sprop-max-don-diff, sprop-depack-buf-bytes and depack-buf-cap
+    Usage::Sending,
+    Usage::Sending,
+    Usage::Receiving,
+];
+
 /// By which parameters levels and buffers are told: no parameter says how many units are to be held, so
 /// that of the bytes stands for it.
-const BY: LevelParameters<H266Parameter> = LevelParameters {
+pub(crate) const BY: LevelParameters<H266Parameter> = LevelParameters {
     level: H266Parameter::LevelId,
     highest: H266Parameter::MaxRecvLevelId,
     difference: H266Parameter::SpropMaxDonDiff,
@@ -96,6 +128,21 @@ fn terms(
     }
 }
 
+/// The same in multicast, at the offered level, which ours isn't below.
+fn multicast_terms(
+    alloc: Global,
+    offered: &H266Parameters,
+    own: &H266Parameters,
+) -> Result<Option<Terms>, AllocError>
+    ensures { IfOk result (λ it. option_map terms_view it
+        ≡ spec.multicast_terms offered.now own.now) }
+{
+    if !keeps_level(&BY, offered, own) {
+        return Ok(None);
+    }
+    terms(alloc, offered, own)
+}
+
 impl CodecRules for H266Parameter {
     ghost use Rattle.h26x_answers.specs.AnswersH266 as spec;
     ghost use Rattle.h26x_answers.specs.OwnH266 as own;
@@ -104,14 +151,22 @@ impl CodecRules for H266Parameter {
 
     ghost terms = { λ _. spec.terms };
 
+    ghost multicast_terms = { λ _. spec.multicast_terms };
+
     ghost known = { λ _. own.known };
 
     ghost fault = { λ _. own.fault };
 
     ghost reorders = { spec.reorders };
 
+    ghost usages = { spec.usages };
+
     fn roles() -> &'static [Role] {
         &ROLES
+    }
+
+    fn usages() -> &'static [Usage] {
+        &USAGES
     }
 
     fn terms(
@@ -121,6 +176,15 @@ impl CodecRules for H266Parameter {
         own: &H266Parameters,
     ) -> Result<Option<Terms>, AllocError> {
         terms(alloc, offered, own)
+    }
+
+    fn multicast_terms(
+        alloc: Global,
+        _rules: AnswerRules,
+        offered: &H266Parameters,
+        own: &H266Parameters,
+    ) -> Result<Option<Terms>, AllocError> {
+        multicast_terms(alloc, offered, own)
     }
 
     fn is_known(_rules: AnswerRules, it: &H266Parameters) -> bool {

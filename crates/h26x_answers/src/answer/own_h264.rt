@@ -4,7 +4,7 @@ ghost use Rattle.std.specs.Prelude.{◌≡◌};
 ghost use Rattle.h26x_answers.specs.AnswersH264 as spec;
 
 use crate::answer::AnswerRules;
-use crate::answer::h264::{ProfileLevelId, id_of, is_interleaved, recv_rank};
+use crate::answer::h264::{ProfileLevelId, id_of, is_interleaved, is_on, recv_rank};
 use crate::fault::{FormatFault, fault_below};
 use h26x_sdp::{H264Parameter, H264Parameters};
 
@@ -102,12 +102,50 @@ fn reordering_fault(it: &H264Parameters) -> Option<FormatFault>
     }
 }
 
-/// What is wrong with limits and reordering, at the highest level that is received.
+/// Whether aspect ratios are supported up to the last that is understood, or, by 255, all.
+fn ratios_fit(understood: Option<u64>, supported: Option<u64>) -> bool
+    ensures { result ≡ spec.ratios_fit understood supported }
+{
+    match (understood, supported) {
+        (Some(understood), Some(supported)) => supported == 255 || supported <= understood,
+        _ => true,
+    }
+}
+
+/// Whether who discards parameter sets that are told uses none of other levels.
+fn in_band_fits(it: &H264Parameters) -> bool
+    ensures { result ≡ spec.in_band_fits it.now }
+{
+    !is_on(it, H264Parameter::InBandParameterSets)
+        || !is_on(it, H264Parameter::UseLevelSrcParameterSets)
+}
+
+/// What is wrong with what is said of aspect ratios and of parameter sets in band.
+fn receiver_fault(it: &H264Parameters) -> Option<FormatFault>
+    ensures { result ≡ spec.receiver_fault it.now }
+{
+    let understood = it.number_or_default(H264Parameter::SarUnderstood);
+    if !ratios_fit(
+        understood,
+        it.number_or_default(H264Parameter::SarSupported),
+    ) {
+        Some(FormatFault::AspectRatios)
+    } else if in_band_fits(it) {
+        None
+    } else {
+        Some(FormatFault::InBandSets)
+    }
+}
+
+/// What is wrong with limits, reordering and what a receiver says, at the highest level that is
+/// received.
 fn fault_at(it: &H264Parameters, level: Option<LevelLimits>) -> Option<FormatFault>
     ensures { result ≡ spec.fault_at it.now level }
 {
     match level {
-        Some(level) => first_below(it, level).or(reordering_fault(it)),
+        Some(level) => first_below(it, level)
+            .or(reordering_fault(it))
+            .or(receiver_fault(it)),
         None => Some(FormatFault::HighestLevel),
     }
 }
@@ -136,12 +174,12 @@ fn is_level(id: ProfileLevelId) -> bool
     limits_of(id.level_rank()).is_some()
 }
 
-/// Whether a format's level is one of the standard's.
+/// Whether a format's profile and level are the standard's.
 pub(crate) fn is_known(rules: AnswerRules, it: &H264Parameters) -> bool
     ensures { result ≡ spec.known rules it.now }
 {
     match id_of(rules, it) {
-        Some(id) => is_level(id),
+        Some(id) => id.has_profile() && is_level(id),
         None => false,
     }
 }
@@ -151,6 +189,7 @@ pub(crate) fn fault(rules: AnswerRules, it: &H264Parameters) -> Option<FormatFau
     ensures { result ≡ spec.fault rules it.now }
 {
     match id_of(rules, it) {
+        Some(id) if !id.has_profile() => Some(FormatFault::Profile),
         Some(id) if is_level(id) => fault_received(it, id.level_rank()),
         _ => Some(FormatFault::Level),
     }

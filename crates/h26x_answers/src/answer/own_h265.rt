@@ -2,10 +2,15 @@
 
 ghost use Rattle.std.specs.Prelude.{◌≡◌};
 ghost use Rattle.h26x_answers.specs.OwnH265 as spec;
+ghost use Rattle.h26x_fmtp.specs.Reading.{value_at};
+ghost use Rattle.h26x_sdp.specs.H265Rows.{row_place};
+ghost use Rattle.h26x_sdp.specs.declared.h265.H265Parameter.TheVariants as parameter;
 
 use crate::answer::by_level::is_positive;
 use crate::answer::same_number;
-use crate::fault::{FormatFault, fault_below};
+use crate::fault::{FormatFault, fault_below, fault_outside};
+use h26x_fmtp::kind::BITS_8;
+use h26x_fmtp::split_piece;
 use h26x_profile::H265Profile;
 use h26x_sdp::{H265Parameter, H265Parameters};
 
@@ -133,30 +138,31 @@ fn of_tier(it: &H265Parameters, level: TieredLimits) -> (u64, u64)
     }
 }
 
-/// The first limit that is below what the highest level asks for, with MaxCPB and MaxBR.
-fn first_below_in(
+/// The first limit that is below what the highest level asks for, or more than 16 times that, with
+/// MaxCPB and MaxBR.
+fn first_outside_in(
     it: &H265Parameters,
     level: TieredLimits,
     cpb: u64,
     br: u64,
 ) -> Option<FormatFault>
-    ensures { result ≡ spec.first_below_in it.now level cpb br }
+    ensures { result ≡ spec.first_outside_in it.now level cpb br }
 {
-    fault_below(it, H265Parameter::MaxLsr, level.lsr)
-        .or(fault_below(it, H265Parameter::MaxLps, level.lps))
-        .or(fault_below(it, H265Parameter::MaxCpb, cpb))
+    fault_outside(it, H265Parameter::MaxLsr, level.lsr)
+        .or(fault_outside(it, H265Parameter::MaxLps, level.lps))
+        .or(fault_outside(it, H265Parameter::MaxCpb, cpb))
         .or(fault_below(it, H265Parameter::MaxDpb, 6))
-        .or(fault_below(it, H265Parameter::MaxBr, br))
-        .or(fault_below(it, H265Parameter::MaxTr, level.tiles.0))
-        .or(fault_below(it, H265Parameter::MaxTc, level.tiles.1))
+        .or(fault_outside(it, H265Parameter::MaxBr, br))
+        .or(fault_outside(it, H265Parameter::MaxTr, level.tiles.0))
+        .or(fault_outside(it, H265Parameter::MaxTc, level.tiles.1))
 }
 
 /// The same in the format's tier.
-fn first_below(it: &H265Parameters, level: TieredLimits) -> Option<FormatFault>
-    ensures { result ≡ spec.first_below it.now level }
+fn first_outside(it: &H265Parameters, level: TieredLimits) -> Option<FormatFault>
+    ensures { result ≡ spec.first_outside it.now level }
 {
     let of_tier = of_tier(it, level);
-    first_below_in(it, level, of_tier.0, of_tier.1)
+    first_outside_in(it, level, of_tier.0, of_tier.1)
 }
 
 /// What is wrong with what is said of packets out of order: where they bear decoding order numbers the
@@ -173,12 +179,43 @@ fn reordering_fault(it: &H265Parameters) -> Option<FormatFault>
     }
 }
 
-/// What is wrong with limits and reordering, at the highest level that is received.
+/// Whether a text is a list of types of hashes, with `,` between them, or empty.
+fn are_hash_types(text: &[u8]) -> bool
+    ensures { result ≡ spec.are_hash_types text.now }
+{
+    if text.is_empty() {
+        return true;
+    }
+    let mut rest = Some(text);
+    while let Some(text) = rest {
+        let (piece, behind) = split_piece(text, b',');
+        if BITS_8.fault_in(piece).is_some() {
+            return false;
+        }
+        rest = behind;
+    }
+    true
+}
+
+/// What is wrong with the types of hashes that are told.
+fn hash_types_fault(it: &H265Parameters) -> Option<FormatFault>
+    ensures { result ≡ spec.hash_types_fault (value_at it.now.values
+        (row_place parameter.IncludeDph)) }
+{
+    match it.value(H265Parameter::IncludeDph) {
+        Some(text) if !are_hash_types(text) => Some(FormatFault::HashTypes),
+        _ => None,
+    }
+}
+
+/// What is wrong with limits, reordering and types of hashes, at the highest level that is received.
 fn fault_at(it: &H265Parameters, level: Option<TieredLimits>) -> Option<FormatFault>
     ensures { result ≡ spec.fault_at it.now level }
 {
     match level {
-        Some(level) => first_below(it, level).or(reordering_fault(it)),
+        Some(level) => first_outside(it, level)
+            .or(reordering_fault(it))
+            .or(hash_types_fault(it)),
         None => Some(FormatFault::HighestLevel),
     }
 }

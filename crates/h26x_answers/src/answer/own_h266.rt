@@ -4,7 +4,7 @@ ghost use Rattle.std.specs.Prelude.{◌≡◌};
 ghost use Rattle.h26x_answers.specs.OwnH266 as spec;
 
 use crate::answer::by_level::is_positive;
-use crate::fault::FormatFault;
+use crate::fault::{FormatFault, fault_outside};
 use h26x_profile::{H266Level, H266Profile};
 use h26x_sdp::{H266Parameter, H266Parameters};
 
@@ -59,6 +59,56 @@ fn reordering_fits(it: &H266Parameters) -> bool
         || is_positive(it.number_or_default(H266Parameter::SpropDepackBufBytes))
 }
 
+/// What is wrong with what is said of packets out of order.
+fn reordering_fault(it: &H266Parameters) -> Option<FormatFault>
+    ensures { result ≡ spec.reordering_fault it.now }
+{
+    if reordering_fits(it) {
+        None
+    } else {
+        Some(FormatFault::Reordering)
+    }
+}
+
+/// MaxLumaSr of a level, luma samples in a second, if the standard gives one (Rec. ITU-T H.266, table
+/// A.2).
+fn luma_rate_of(level: u64) -> Option<u64>
+    ensures { result ≡ spec.luma_rate_of level }
+{
+    match level {
+        16 => Some(552960),
+        32 => Some(3686400),
+        35 => Some(7372800),
+        48 => Some(16588800),
+        51 => Some(33177600),
+        64 => Some(66846720),
+        67 => Some(133693440),
+        80 => Some(267386880),
+        83 => Some(534773760),
+        86 | 96 => Some(1069547520),
+        99 => Some(2139095040),
+        102 => Some(4278190080),
+        105 => Some(4812963840),
+        _ => None,
+    }
+}
+
+/// The highest level that is received.
+fn highest_level(it: &H266Parameters) -> Option<u64>
+    ensures { result ≡ spec.highest_level it.now }
+{
+    it.number(H266Parameter::MaxRecvLevelId)
+        .or(it.number_or_default(H266Parameter::LevelId))
+}
+
+/// What is wrong with the rate of luma samples, at the highest level that is received.
+fn rate_fault(it: &H266Parameters) -> Option<FormatFault>
+    ensures { result ≡ spec.rate_fault it.now (spec.highest_level it.now) }
+{
+    let rate = luma_rate_of(highest_level(it)?)?;
+    fault_outside(it, H266Parameter::MaxLsr, rate)
+}
+
 /// The first rule that a format of one's own breaks.
 pub(crate) fn fault(it: &H266Parameters) -> Option<FormatFault>
     ensures { result ≡ spec.fault it.now }
@@ -72,9 +122,5 @@ pub(crate) fn fault(it: &H266Parameters) -> Option<FormatFault>
     if !is_received_above(it) {
         return Some(FormatFault::HighestLevel);
     }
-    if reordering_fits(it) {
-        None
-    } else {
-        Some(FormatFault::Reordering)
-    }
+    rate_fault(it).or(reordering_fault(it))
 }

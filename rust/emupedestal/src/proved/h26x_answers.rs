@@ -4,9 +4,15 @@
 //! 8.2.2; RFC 7798, section 7.2.2; RFC 9328, section 7.3.2).
 //!
 //! The definitions that contracts cite stand in `specs/`.
+mod agreed;
 mod answer;
+mod declared;
+mod direction;
 mod fault;
 
+pub use agreed::{Agreed, AgreedSets, AgreedStream, CodecStreams, agreed_streams};
 pub use answer::{AnswerConfig, AnswerRules, CodecRules, Format, Role, Terms, own_fault};
 pub(crate) use answer::{answer_format, answer_to};
+pub use declared::{CodecDeclared, accepts_declared};
+pub use direction::{Direction, Usage};
 pub use fault::FormatFault;

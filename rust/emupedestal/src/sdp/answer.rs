@@ -7,7 +7,7 @@ use core::error::Error;
 use core::fmt;
 use core::slice;
 
-pub use crate::proved::h26x_answers::{AnswerConfig, AnswerRules};
+pub use crate::proved::h26x_answers::{AnswerConfig, AnswerRules, Direction};
 
 /// There was no memory. Nothing has changed.
 #[derive(Debug, Clone, Copy, PartialEq, Eq, Hash)]
@@ -31,6 +31,8 @@ impl From<AllocError> for OutOfMemory {
 const ANY_ORDER: AnswerConfig = AnswerConfig {
     any_order: true,
     rules: AnswerRules::Rfc,
+    direction: Direction::SendRecv,
+    multicast: false,
 };
 
 /// A payload type and the parameters of its format, as an offer has several of them.
@@ -90,7 +92,7 @@ impl<P: Parameter> CodecParameters<P> {
     }
 
     /// The same of an end that answers by a configuration: by the rules of the RFCs or as WebRTC's peers do it, of units
-    /// in decoding order or in any.
+    /// in decoding order or in any, both ways or in one direction.
     ///
     /// ```
     /// use emupedestal::sdp::{AnswerConfig, AnswerRules, H264Parameters};
@@ -100,6 +102,37 @@ impl<P: Parameter> CodecParameters<P> {
     /// let webrtc = AnswerConfig { rules: AnswerRules::Webrtc, ..AnswerConfig::default() };
     /// assert!(safari.answer(&ours)?.is_none());
     /// assert_eq!(safari.answer_with(webrtc, &ours)?, Some(safari));
+    /// # Ok::<(), Box<dyn std::error::Error>>(())
+    /// ```
+    ///
+    /// An answer in one direction has nothing in it that isn't usable there, and what isn't usable in the offer's is
+    /// ignored: who receives alone tells no parameter sets.
+    ///
+    /// ```
+    /// use emupedestal::sdp::{AnswerConfig, Direction, H264Parameters};
+    ///
+    /// let camera: H264Parameters = "profile-level-id=42e01f;packetization-mode=1;max-fs=5120".parse()?;
+    /// let ours: [H264Parameters; 1] =
+    ///     ["profile-level-id=42e01f;packetization-mode=1;sprop-parameter-sets=Z0LAH5WoFAFuQA==,aM4yyA==;max-br=20000".parse()?];
+    /// let receives = AnswerConfig { direction: Direction::RecvOnly, ..AnswerConfig::default() };
+    /// let answer = camera.answer_with(receives, &ours)?.expect("one in common");
+    /// assert_eq!(answer.to_string(), "profile-level-id=42e01f;max-br=20000;packetization-mode=1");
+    /// # Ok::<(), Box<dyn std::error::Error>>(())
+    /// ```
+    ///
+    /// An answer of multicast keeps the offered level, and there is none where ours is below it.
+    ///
+    /// ```
+    /// use emupedestal::sdp::{AnswerConfig, H264Parameters};
+    ///
+    /// let offered: H264Parameters = "profile-level-id=42e01f;level-asymmetry-allowed=1".parse()?;
+    /// let above: [H264Parameters; 1] = ["profile-level-id=42e028;level-asymmetry-allowed=1".parse()?];
+    /// let below: [H264Parameters; 1] = ["profile-level-id=42e01e;max-recv-level=e028".parse()?];
+    /// let multicast = AnswerConfig { multicast: true, ..AnswerConfig::default() };
+    /// let answer = offered.answer_with(multicast, &above)?.expect("one in common");
+    /// assert_eq!(answer.to_string(), "profile-level-id=42e01f");
+    /// assert!(offered.answer_with(multicast, &below)?.is_none());
+    /// assert!(offered.answer(&below)?.is_some());
     /// # Ok::<(), Box<dyn std::error::Error>>(())
     /// ```
     ///
@@ -140,7 +173,11 @@ impl<P: Parameter> CodecParameters<P> {
             FormatFault::Level => BrokenRule::Level,
             FormatFault::HighestLevel => BrokenRule::HighestLevel,
             FormatFault::BelowLevel { place } => BrokenRule::BelowLevel(*P::all().get(place)?),
+            FormatFault::AboveLevel { place } => BrokenRule::AboveLevel(*P::all().get(place)?),
             FormatFault::Reordering => BrokenRule::Reordering,
+            FormatFault::AspectRatios => BrokenRule::AspectRatios,
+            FormatFault::InBandSets => BrokenRule::InBandSets,
+            FormatFault::HashTypes => BrokenRule::HashTypes,
             FormatFault::OutOfOrder => BrokenRule::OutOfOrder,
         })
     }

@@ -49,8 +49,16 @@ pub enum BrokenRule<P> {
     HighestLevel,
     /// This parameter is below what the highest level asks for.
     BelowLevel(P),
+    /// This parameter is more than 16 times what the highest level asks for, of H.265 and H.266.
+    AboveLevel(P),
     /// What is said of packets out of order stands where there are none, or is absent where there are.
     Reordering,
+    /// `sar-supported` is above `sar-understood`, and isn't 255.
+    AspectRatios,
+    /// `in-band-parameter-sets` is 1, and so is `use-level-src-parameter-sets`.
+    InBandSets,
+    /// `include-dph` isn't a list of numbers up to 255.
+    HashTypes,
     /// Units may be sent in another order than decoded, which only
     /// [`answer_any_order`](super::CodecParameters::answer_any_order) takes.
     OutOfOrder,
@@ -63,7 +71,15 @@ impl<P: fmt::Display> fmt::Display for BrokenRule<P> {
             BrokenRule::Level => write!(f, "the standard has no such level"),
             BrokenRule::HighestLevel => write!(f, "the highest level isn't one above the level"),
             BrokenRule::BelowLevel(it) => write!(f, "{it} is below what the level asks for"),
+            BrokenRule::AboveLevel(it) => {
+                write!(f, "{it} is above 16 times what the level asks for")
+            }
             BrokenRule::Reordering => write!(f, "what is said of packets out of order doesn't fit"),
+            BrokenRule::AspectRatios => write!(f, "sar-supported is above sar-understood"),
+            BrokenRule::InBandSets => {
+                write!(f, "sets of levels aren't used where all are sent in band")
+            }
+            BrokenRule::HashTypes => write!(f, "include-dph isn't a list of numbers up to 255"),
             BrokenRule::OutOfOrder => write!(f, "units may be sent in another order than decoded"),
         }
     }

@@ -2,7 +2,7 @@
 
 use super::{H264Parameter, H265Parameter, H266Parameter};
 use super::{ParametersError, SetError, UnitsError};
-use crate::proved::h26x_answers::CodecRules;
+use crate::proved::h26x_answers::{CodecDeclared, CodecStreams};
 use crate::proved::h26x_fmtp as proved;
 use crate::proved::h26x_sdp as codecs;
 use alloc::string::String;
@@ -12,7 +12,7 @@ use core::hash::Hash;
 use core::str::{self, FromStr};
 
 /// A format parameter of one of the codecs: [`H264Parameter`], [`H265Parameter`] or [`H266Parameter`], and no other.
-pub trait Parameter: CodecRules + fmt::Debug + Eq + Hash + 'static {
+pub trait Parameter: CodecStreams + CodecDeclared + fmt::Debug + Eq + Hash + 'static {
     /// All of them, in the order in which they are written.
     fn all() -> &'static [Self];
 

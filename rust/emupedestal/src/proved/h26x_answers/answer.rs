@@ -10,7 +10,10 @@ pub(crate) mod h266;
 pub(crate) mod own_h264;
 pub(crate) mod own_h265;
 pub(crate) mod own_h266;
+mod usable;
 
+use crate::proved::h26x_answers::answer::usable::{heard, usable};
+use crate::proved::h26x_answers::direction::{Direction, Usage};
 use crate::proved::h26x_answers::fault::FormatFault;
 use crate::proved::h26x_fmtp::{FormatParameters, Kind, OtherParameter, ParameterRow, same_name};
 use crate::proved::h26x_sdp::{CodecParameter, CodecParameters};
@@ -51,9 +54,19 @@ pub trait CodecRules: CodecParameter {
     /// What each parameter is, in the order of the table.
     fn roles() -> &'static [Role];
 
+    /// In which directions each parameter is usable, in the order of the table.
+    fn usages() -> &'static [Usage];
+
     /// The terms of an offered format and one of ours, whose configuration is one; `None` where they
     /// have none.
     fn terms(
+        rules: AnswerRules,
+        offered: &CodecParameters<Self>,
+        own: &CodecParameters<Self>,
+    ) -> Result<Option<Terms>, AllocError>;
+
+    /// The same in multicast: at the offered level, and `None` where ours is below it.
+    fn multicast_terms(
         rules: AnswerRules,
         offered: &CodecParameters<Self>,
         own: &CodecParameters<Self>,
@@ -93,6 +106,11 @@ pub struct AnswerConfig {
     pub any_order: bool,
     /// By which rules it reads and compares formats: those of the RFCs unless others are asked for.
     pub rules: AnswerRules,
+    /// The direction of the answer, as its end writes it: both ways unless another is asked for.
+    pub direction: Direction,
+    /// Whether media go by multicast, where no answer changes the level: it keeps the offered one, and
+    /// there is none where ours is below it. Otherwise by unicast.
+    pub multicast: bool,
 }
 
 /// What two formats of one configuration agree on.
@@ -196,7 +214,7 @@ fn is_symmetric_at(
 }
 
 /// Whether the configuration of two formats is one.
-fn are_symmetric(
+pub(crate) fn are_symmetric(
     roles: &[Role],
     rows: &[ParameterRow],
     offered: &FormatParameters,
@@ -301,7 +319,7 @@ fn answered<P: CodecRules>(
 
 /// The terms of two formats, if they are of one configuration.
 fn common_terms<P: CodecRules>(
-    rules: AnswerRules,
+    config: AnswerConfig,
     offered: &CodecParameters<P>,
     own: &CodecParameters<P>,
 ) -> Result<Option<Terms>, AllocError> {
@@ -313,17 +331,21 @@ fn common_terms<P: CodecRules>(
     ) {
         return Ok(None);
     }
-    P::terms(rules, offered, own)
+    if config.multicast {
+        P::multicast_terms(config.rules, offered, own)
+    } else {
+        P::terms(config.rules, offered, own)
+    }
 }
 
 /// The answer to an offered format by one of ours.
 fn answer_by<P: CodecRules>(
-    rules: AnswerRules,
+    config: AnswerConfig,
     offered: &CodecParameters<P>,
     own: &CodecParameters<P>,
 ) -> Result<Option<CodecParameters<P>>, AllocError> {
-    match common_terms(rules, offered, own)? {
-        Some(terms) => Ok(Some(answered(rules, offered, own, &terms)?)),
+    match common_terms(config, offered, own)? {
+        Some(terms) => Ok(Some(answered(config.rules, offered, own, &terms)?)),
         None => Ok(None),
     }
 }
@@ -343,24 +365,57 @@ pub fn own_fault<P: CodecRules>(
 }
 
 /// The answer to an offered format of a profile and a level that a table has, in an order of units that
-/// the caller takes, by one of ours that breaks no rule.
-fn allowed_answer<P: CodecRules>(
+/// the caller takes.
+fn known_answer<P: CodecRules>(
     config: AnswerConfig,
     offered: &CodecParameters<P>,
     own: &CodecParameters<P>,
 ) -> Result<Option<CodecParameters<P>>, AllocError> {
     let is_ordered = config.any_order || !P::reorders(offered);
-    if !P::is_known(config.rules, offered) || !is_ordered || own_fault(config, own).is_some() {
+    if !P::is_known(config.rules, offered) || !is_ordered {
         return Ok(None);
     }
-    answer_by(config.rules, offered, own)
+    answer_by(config, offered, own)
+}
+
+/// The same of what is heard of both in their directions.
+fn heard_answer<P: CodecRules>(
+    config: AnswerConfig,
+    offered: &CodecParameters<P>,
+    own: &CodecParameters<P>,
+) -> Result<Option<CodecParameters<P>>, AllocError> {
+    match config.direction {
+        Direction::SendRecv => known_answer(config, offered, own),
+        direction => {
+            let theirs = heard(direction.opposite(), offered)?;
+            let ours = heard(direction, own)?;
+            known_answer(config, &theirs, &ours)
+        }
+    }
+}
+
+/// The answer to an offered format in the directions of both, by one of ours that breaks no rule.
+fn allowed_answer<P: CodecRules>(
+    config: AnswerConfig,
+    offered: &CodecParameters<P>,
+    own: &CodecParameters<P>,
+) -> Result<Option<CodecParameters<P>>, AllocError> {
+    if own_fault(config, own).is_some() {
+        return Ok(None);
+    }
+    match heard_answer(config, offered, own)? {
+        Some(answer) => Ok(Some(usable(config, answer)?)),
+        None => Ok(None),
+    }
 }
 
 /// The answer to the parameters of an offered format, by the first of ours that gives one; `None`
 /// where none does, and where the standard has no such profile or level, or units may be sent in
 /// another order than the caller takes. One of ours that breaks a rule gives none ([`own_fault`] tells
-/// it). It is for both directions, and for unicast (RFC 6184, section 8.2.2; RFC 7798, section 7.2.2;
-/// RFC 9328, section 7.3.2).
+/// it). It is for unicast, or for multicast where `config.multicast` says so (RFC 6184, section 8.2.2;
+/// RFC 7798, section 7.2.2; RFC 9328, section 7.3.2), in the answer's direction `config.direction` and
+/// the offer's opposite one: what isn't usable there is ignored, of the offer and of ours, and doesn't
+/// stand in the answer.
 pub(crate) fn answer_format<P: CodecRules>(
     config: AnswerConfig,
     offered: &CodecParameters<P>,

@@ -27,12 +27,12 @@ pub(crate) struct LevelParameters<P> {
 /// The default level and the highest.
 #[derive(Debug, Clone, Copy, PartialEq, Eq)]
 pub(crate) struct Levels {
-    level: u64,
-    highest: u64,
+    pub(crate) level: u64,
+    pub(crate) highest: u64,
 }
 
 /// The levels of parameters.
-fn levels_of<P: CodecParameter>(
+pub(crate) fn levels_of<P: CodecParameter>(
     by: &LevelParameters<P>,
     it: &CodecParameters<P>,
 ) -> Option<Levels> {
@@ -100,7 +100,7 @@ pub(crate) fn is_positive(number: Option<u64>) -> bool {
 }
 
 /// Whether what one sends is what another can put in order.
-fn can_hold<P: CodecParameter>(
+pub(crate) fn can_hold<P: CodecParameter>(
     by: &LevelParameters<P>,
     sender: &CodecParameters<P>,
     receiver: &CodecParameters<P>,
@@ -110,6 +110,18 @@ fn can_hold<P: CodecParameter>(
     let units = sender.number_or_default(by.units);
     !is_positive(sender.number_or_default(by.difference))
         || (is_positive(units) && (is_positive(need) && holds(need, room)))
+}
+
+/// Whether our level isn't below the offered one.
+pub(crate) fn keeps_level<P: CodecParameter>(
+    by: &LevelParameters<P>,
+    offered: &CodecParameters<P>,
+    own: &CodecParameters<P>,
+) -> bool {
+    match (levels_of(by, offered), levels_of(by, own)) {
+        (Some(a), Some(b)) => a.level <= b.level,
+        _ => false,
+    }
 }
 
 /// The terms of two formats of these levels.

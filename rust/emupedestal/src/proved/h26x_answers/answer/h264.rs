@@ -5,6 +5,7 @@
 use crate::proved::h26x_answers::answer::{
     AnswerRules, CodecRules, Role, Terms, copy_of, holds, own_h264, same_number,
 };
+use crate::proved::h26x_answers::direction::Usage;
 use crate::proved::h26x_answers::fault::FormatFault;
 use crate::proved::h26x_profile::{H264LevelIdc, H264Profile, H264ProfileIdc, H264ProfileLevel};
 use crate::proved::h26x_sdp::{H264Parameter, H264Parameters};
@@ -45,6 +46,41 @@ static ROLES: [Role; 23] = [
     Role::Own,
     Role::Own,
     Role::Own,
+];
+
+/// In which directions each parameter is usable, in the order of the table.
+static USAGES: [Usage; 23] = [
+    // profile-level-id and max-recv-level
+    Usage::Always,
+    Usage::Receiving,
+    // max-mbps, max-smbps, max-fs, max-cpb, max-dpb, max-br and redundant-pic-cap
+    Usage::Receiving,
+    Usage::Receiving,
+    Usage::Receiving,
+    Usage::Receiving,
+    Usage::Receiving,
+    Usage::Receiving,
+    Usage::Receiving,
+    // sprop-parameter-sets and sprop-level-parameter-sets
+    Usage::Sending,
+    Usage::Sending,
+    // use-level-src-parameter-sets, in-band-parameter-sets and level-asymmetry-allowed
+    Usage::Receiving,
+    Usage::Receiving,
+    Usage::Both,
+    // packetization-mode
+    Usage::Always,
+    // sprop-interleaving-depth, sprop-deint-buf-req and deint-buf-cap
+    Usage::Sending,
+    Usage::Sending,
+    Usage::Receiving,
+    // sprop-init-buf-time and sprop-max-don-diff
+    Usage::Sending,
+    Usage::Sending,
+    // max-rcmd-nalu-size, sar-understood and sar-supported
+    Usage::Receiving,
+    Usage::Receiving,
+    Usage::Receiving,
 ];
 
 /// The three bytes of a `profile-level-id` (RFC 6184, section 8.1).
@@ -101,6 +137,15 @@ impl ProfileLevelId {
         }
     }
 
+    /// Whether the standard has the profile_idc (Rec. ITU-T H.264, Annexes A and G to J).
+    pub(crate) fn has_profile(self) -> bool {
+        matches!(self.profile_idc, 66 | 77 | 88 | 100 | 110 | 122 | 244 | 44)
+            || matches!(
+                self.profile_idc,
+                83 | 86 | 118 | 128 | 134 | 135 | 138 | 139
+            )
+    }
+
     /// The sub-profile that table 5 of RFC 6184 has.
     fn sub_profile(self) -> Option<H264Profile> {
         match H264ProfileIdc::try_from(self.profile_idc) {
@@ -116,7 +161,7 @@ impl ProfileLevelId {
     }
 
     /// Whether an end of a profile takes this one, which is offered.
-    fn is_taken(self, rules: AnswerRules, own: Self) -> bool {
+    pub(crate) fn is_taken(self, rules: AnswerRules, own: Self) -> bool {
         self.same_profile(own)
             || (rules == AnswerRules::Webrtc
                 && constrained_sub_profile(self.sub_profile(), own.sub_profile()))
@@ -193,7 +238,7 @@ fn flagged_rank(flag: u8, level_idc: u8) -> u16 {
 }
 
 /// Whether a flag is 1.
-fn is_on(it: &H264Parameters, parameter: H264Parameter) -> bool {
+pub(crate) fn is_on(it: &H264Parameters, parameter: H264Parameter) -> bool {
     same_number(it.number_or_default(parameter), Some(1))
 }
 
@@ -214,7 +259,7 @@ pub(crate) fn id_of(rules: AnswerRules, it: &H264Parameters) -> Option<ProfileLe
 }
 
 /// The highest level that an end receives, as `level_rank`.
-fn highest_rank(it: &H264Parameters, id: ProfileLevelId) -> u16 {
+pub(crate) fn highest_rank(it: &H264Parameters, id: ProfileLevelId) -> u16 {
     match it.value(H264Parameter::MaxRecvLevel) {
         Some(text) => id.level_rank().max(recv_rank(text)),
         None => id.level_rank(),
@@ -230,7 +275,7 @@ pub(crate) fn is_interleaved(it: &H264Parameters) -> bool {
 }
 
 /// Whether what one sends is what another can put in order.
-fn can_deinterleave(sender: &H264Parameters, receiver: &H264Parameters) -> bool {
+pub(crate) fn can_deinterleave(sender: &H264Parameters, receiver: &H264Parameters) -> bool {
     let need = sender.number_or_default(H264Parameter::SpropDeintBufReq);
     let room = receiver.number_or_default(H264Parameter::DeintBufCap);
     let depth = sender.value(H264Parameter::SpropInterleavingDepth);
@@ -243,7 +288,7 @@ fn can_order(offered: &H264Parameters, own: &H264Parameters) -> bool {
 }
 
 /// Whether both ends allow a level for each direction.
-fn both_asymmetric(offered: &H264Parameters, own: &H264Parameters) -> bool {
+pub(crate) fn both_asymmetric(offered: &H264Parameters, own: &H264Parameters) -> bool {
     is_on(offered, H264Parameter::LevelAsymmetryAllowed)
         && is_on(own, H264Parameter::LevelAsymmetryAllowed)
 }
@@ -300,8 +345,8 @@ fn terms_at(
     asymmetric: bool,
     a: ProfileLevelId,
     b: ProfileLevelId,
+    level: ProfileLevelId,
 ) -> Result<Terms, AllocError> {
-    let level = answer_level(asymmetric, a, b);
     let back = rank_back(offered, asymmetric, a, level);
     Ok(Terms {
         level: answer_id(offered, a, level)?,
@@ -325,17 +370,34 @@ fn terms(
     if !(a.is_taken(rules, b) && can_order(offered, own)) {
         return Ok(None);
     }
-    Ok(Some(terms_at(
-        offered,
-        both_asymmetric(offered, own),
-        a,
-        b,
-    )?))
+    let asymmetric = both_asymmetric(offered, own);
+    let level = answer_level(asymmetric, a, b);
+    Ok(Some(terms_at(offered, asymmetric, a, b, level)?))
+}
+
+/// The same in multicast, at the offered level, which ours isn't below.
+fn multicast_terms(
+    rules: AnswerRules,
+    offered: &H264Parameters,
+    own: &H264Parameters,
+) -> Result<Option<Terms>, AllocError> {
+    let (Some(a), Some(b)) = (id_of(rules, offered), id_of(rules, own)) else {
+        return Ok(None);
+    };
+    let keeps = a.level_rank() <= b.level_rank();
+    if !(keeps && (a.is_taken(rules, b) && can_order(offered, own))) {
+        return Ok(None);
+    }
+    Ok(Some(terms_at(offered, false, a, b, a)?))
 }
 
 impl CodecRules for H264Parameter {
     fn roles() -> &'static [Role] {
         &ROLES
+    }
+
+    fn usages() -> &'static [Usage] {
+        &USAGES
     }
 
     fn terms(
@@ -344,6 +406,14 @@ impl CodecRules for H264Parameter {
         own: &H264Parameters,
     ) -> Result<Option<Terms>, AllocError> {
         terms(rules, offered, own)
+    }
+
+    fn multicast_terms(
+        rules: AnswerRules,
+        offered: &H264Parameters,
+        own: &H264Parameters,
+    ) -> Result<Option<Terms>, AllocError> {
+        multicast_terms(rules, offered, own)
     }
 
     fn is_known(rules: AnswerRules, it: &H264Parameters) -> bool {

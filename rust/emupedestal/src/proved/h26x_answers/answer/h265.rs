@@ -2,10 +2,13 @@
 
 //! Answers to offers of H.265 (RFC 7798, section 7.2.2).
 
-use crate::proved::h26x_answers::answer::by_level::{LevelParameters, is_positive, terms_by_level};
+use crate::proved::h26x_answers::answer::by_level::{
+    LevelParameters, is_positive, keeps_level, terms_by_level,
+};
 use crate::proved::h26x_answers::answer::{
     AnswerRules, CodecRules, Role, Terms, own_h265, same_if_given, same_number,
 };
+use crate::proved::h26x_answers::direction::Usage;
 use crate::proved::h26x_answers::fault::FormatFault;
 use crate::proved::h26x_fmtp::Kind;
 use crate::proved::h26x_sdp::{H265Parameter, H265Parameters};
@@ -55,8 +58,51 @@ static ROLES: [Role; 30] = [
     Role::Own,
 ];
 
+/// In which directions each parameter is usable, in the order of the table.
+static USAGES: [Usage; 30] = [
+    // profile-space, profile-id and tier-flag
+    Usage::Always,
+    Usage::Always,
+    Usage::Always,
+    // level-id
+    Usage::Always,
+    // interop-constraints and profile-compatibility-indicator
+    Usage::Always,
+    Usage::Always,
+    // sprop-sub-layer-id and recv-sub-layer-id
+    Usage::Sending,
+    Usage::Receiving,
+    // max-recv-level-id and tx-mode
+    Usage::Receiving,
+    Usage::Always,
+    // sprop-vps, sprop-sps, sprop-pps and sprop-sei
+    Usage::Sending,
+    Usage::Sending,
+    Usage::Sending,
+    Usage::Sending,
+    // max-lsr, max-lps, max-cpb, max-dpb, max-br, max-tr, max-tc and max-fps
+    Usage::Receiving,
+    Usage::Receiving,
+    Usage::Receiving,
+    Usage::Receiving,
+    Usage::Receiving,
+    Usage::Receiving,
+    Usage::Receiving,
+    Usage::Receiving,
+    // sprop-max-don-diff, sprop-depack-buf-nalus, sprop-depack-buf-bytes and depack-buf-cap
+    Usage::Sending,
+    Usage::Sending,
+    Usage::Sending,
+    Usage::Receiving,
+    // sprop-segmentation-id, sprop-spatial-segmentation-idc, dec-parallel-cap and include-dph
+    Usage::Sending,
+    Usage::Sending,
+    Usage::Receiving,
+    Usage::Receiving,
+];
+
 /// By which parameters levels and buffers are told.
-const BY: LevelParameters<H265Parameter> = LevelParameters {
+pub(crate) const BY: LevelParameters<H265Parameter> = LevelParameters {
     level: H265Parameter::LevelId,
     highest: H265Parameter::MaxRecvLevelId,
     difference: H265Parameter::SpropMaxDonDiff,
@@ -98,7 +144,7 @@ fn same_constraints(offered: &H265Parameters, own: &H265Parameters) -> bool {
 }
 
 /// Whether two formats are of one profile beside its number.
-fn agree(rules: AnswerRules, offered: &H265Parameters, own: &H265Parameters) -> bool {
+pub(crate) fn agree(rules: AnswerRules, offered: &H265Parameters, own: &H265Parameters) -> bool {
     match rules {
         AnswerRules::Rfc => {
             same_constraints(offered, own)
@@ -120,9 +166,25 @@ fn terms(
     terms_by_level(&BY, offered, own)
 }
 
+/// The same in multicast, at the offered level, which ours isn't below.
+fn multicast_terms(
+    rules: AnswerRules,
+    offered: &H265Parameters,
+    own: &H265Parameters,
+) -> Result<Option<Terms>, AllocError> {
+    if !keeps_level(&BY, offered, own) {
+        return Ok(None);
+    }
+    terms(rules, offered, own)
+}
+
 impl CodecRules for H265Parameter {
     fn roles() -> &'static [Role] {
         &ROLES
+    }
+
+    fn usages() -> &'static [Usage] {
+        &USAGES
     }
 
     fn terms(
@@ -131,6 +193,14 @@ impl CodecRules for H265Parameter {
         own: &H265Parameters,
     ) -> Result<Option<Terms>, AllocError> {
         terms(rules, offered, own)
+    }
+
+    fn multicast_terms(
+        rules: AnswerRules,
+        offered: &H265Parameters,
+        own: &H265Parameters,
+    ) -> Result<Option<Terms>, AllocError> {
+        multicast_terms(rules, offered, own)
     }
 
     fn is_known(_rules: AnswerRules, it: &H265Parameters) -> bool {

@@ -2,10 +2,13 @@
 
 //! Answers to offers of H.266 (RFC 9328, section 7.3.2).
 
-use crate::proved::h26x_answers::answer::by_level::{LevelParameters, is_positive, terms_by_level};
+use crate::proved::h26x_answers::answer::by_level::{
+    LevelParameters, is_positive, keeps_level, terms_by_level,
+};
 use crate::proved::h26x_answers::answer::{
     AnswerRules, CodecRules, Role, Terms, own_h266, same_if_given, same_number,
 };
+use crate::proved::h26x_answers::direction::Usage;
 use crate::proved::h26x_answers::fault::FormatFault;
 use crate::proved::h26x_fmtp::Kind;
 use crate::proved::h26x_fmtp::unit_types::H266_VPS;
@@ -43,9 +46,40 @@ static ROLES: [Role; 20] = [
     Role::Own,
 ];
 
+/// In which directions each parameter is usable, in the order of the table.
+static USAGES: [Usage; 20] = [
+    // profile-id, tier-flag, sub-profile-id and interop-constraints
+    Usage::Always,
+    Usage::Always,
+    Usage::Always,
+    Usage::Always,
+    // level-id
+    Usage::Always,
+    // sprop-sublayer-id, sprop-ols-id, recv-sublayer-id and recv-ols-id
+    Usage::Sending,
+    Usage::Sending,
+    Usage::Receiving,
+    Usage::Receiving,
+    // max-recv-level-id
+    Usage::Receiving,
+    // sprop-dci, sprop-vps, sprop-sps, sprop-pps and sprop-sei
+    Usage::Sending,
+    Usage::Sending,
+    Usage::Sending,
+    Usage::Sending,
+    Usage::Sending,
+    // max-lsr and max-fps
+    Usage::Receiving,
+    Usage::Receiving,
+    // sprop-max-don-diff, sprop-depack-buf-bytes and depack-buf-cap
+    Usage::Sending,
+    Usage::Sending,
+    Usage::Receiving,
+];
+
 /// By which parameters levels and buffers are told: no parameter says how many units are to be held, so
 /// that of the bytes stands for it.
-const BY: LevelParameters<H266Parameter> = LevelParameters {
+pub(crate) const BY: LevelParameters<H266Parameter> = LevelParameters {
     level: H266Parameter::LevelId,
     highest: H266Parameter::MaxRecvLevelId,
     difference: H266Parameter::SpropMaxDonDiff,
@@ -85,9 +119,24 @@ fn terms(offered: &H266Parameters, own: &H266Parameters) -> Result<Option<Terms>
     }
 }
 
+/// The same in multicast, at the offered level, which ours isn't below.
+fn multicast_terms(
+    offered: &H266Parameters,
+    own: &H266Parameters,
+) -> Result<Option<Terms>, AllocError> {
+    if !keeps_level(&BY, offered, own) {
+        return Ok(None);
+    }
+    terms(offered, own)
+}
+
 impl CodecRules for H266Parameter {
     fn roles() -> &'static [Role] {
         &ROLES
+    }
+
+    fn usages() -> &'static [Usage] {
+        &USAGES
     }
 
     fn terms(
@@ -96,6 +145,14 @@ impl CodecRules for H266Parameter {
         own: &H266Parameters,
     ) -> Result<Option<Terms>, AllocError> {
         terms(offered, own)
+    }
+
+    fn multicast_terms(
+        _rules: AnswerRules,
+        offered: &H266Parameters,
+        own: &H266Parameters,
+    ) -> Result<Option<Terms>, AllocError> {
+        multicast_terms(offered, own)
     }
 
     fn is_known(_rules: AnswerRules, it: &H266Parameters) -> bool {

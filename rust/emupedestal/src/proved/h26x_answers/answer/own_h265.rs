@@ -4,7 +4,9 @@
 
 use crate::proved::h26x_answers::answer::by_level::is_positive;
 use crate::proved::h26x_answers::answer::same_number;
-use crate::proved::h26x_answers::fault::{FormatFault, fault_below};
+use crate::proved::h26x_answers::fault::{FormatFault, fault_below, fault_outside};
+use crate::proved::h26x_fmtp::kind::BITS_8;
+use crate::proved::h26x_fmtp::split_piece;
 use crate::proved::h26x_profile::H265Profile;
 use crate::proved::h26x_sdp::{H265Parameter, H265Parameters};
 
@@ -126,26 +128,27 @@ fn of_tier(it: &H265Parameters, level: TieredLimits) -> (u64, u64) {
     }
 }
 
-/// The first limit that is below what the highest level asks for, with MaxCPB and MaxBR.
-fn first_below_in(
+/// The first limit that is below what the highest level asks for, or more than 16 times that, with
+/// MaxCPB and MaxBR.
+fn first_outside_in(
     it: &H265Parameters,
     level: TieredLimits,
     cpb: u64,
     br: u64,
 ) -> Option<FormatFault> {
-    fault_below(it, H265Parameter::MaxLsr, level.lsr)
-        .or(fault_below(it, H265Parameter::MaxLps, level.lps))
-        .or(fault_below(it, H265Parameter::MaxCpb, cpb))
+    fault_outside(it, H265Parameter::MaxLsr, level.lsr)
+        .or(fault_outside(it, H265Parameter::MaxLps, level.lps))
+        .or(fault_outside(it, H265Parameter::MaxCpb, cpb))
         .or(fault_below(it, H265Parameter::MaxDpb, 6))
-        .or(fault_below(it, H265Parameter::MaxBr, br))
-        .or(fault_below(it, H265Parameter::MaxTr, level.tiles.0))
-        .or(fault_below(it, H265Parameter::MaxTc, level.tiles.1))
+        .or(fault_outside(it, H265Parameter::MaxBr, br))
+        .or(fault_outside(it, H265Parameter::MaxTr, level.tiles.0))
+        .or(fault_outside(it, H265Parameter::MaxTc, level.tiles.1))
 }
 
 /// The same in the format's tier.
-fn first_below(it: &H265Parameters, level: TieredLimits) -> Option<FormatFault> {
+fn first_outside(it: &H265Parameters, level: TieredLimits) -> Option<FormatFault> {
     let of_tier = of_tier(it, level);
-    first_below_in(it, level, of_tier.0, of_tier.1)
+    first_outside_in(it, level, of_tier.0, of_tier.1)
 }
 
 /// What is wrong with what is said of packets out of order: where they bear decoding order numbers the
@@ -160,10 +163,36 @@ fn reordering_fault(it: &H265Parameters) -> Option<FormatFault> {
     }
 }
 
-/// What is wrong with limits and reordering, at the highest level that is received.
+/// Whether a text is a list of types of hashes, with `,` between them, or empty.
+fn are_hash_types(text: &[u8]) -> bool {
+    if text.is_empty() {
+        return true;
+    }
+    let mut rest = Some(text);
+    while let Some(text) = rest {
+        let (piece, behind) = split_piece(text, b',');
+        if BITS_8.fault_in(piece).is_some() {
+            return false;
+        }
+        rest = behind;
+    }
+    true
+}
+
+/// What is wrong with the types of hashes that are told.
+fn hash_types_fault(it: &H265Parameters) -> Option<FormatFault> {
+    match it.value(H265Parameter::IncludeDph) {
+        Some(text) if !are_hash_types(text) => Some(FormatFault::HashTypes),
+        _ => None,
+    }
+}
+
+/// What is wrong with limits, reordering and types of hashes, at the highest level that is received.
 fn fault_at(it: &H265Parameters, level: Option<TieredLimits>) -> Option<FormatFault> {
     match level {
-        Some(level) => first_below(it, level).or(reordering_fault(it)),
+        Some(level) => first_outside(it, level)
+            .or(reordering_fault(it))
+            .or(hash_types_fault(it)),
         None => Some(FormatFault::HighestLevel),
     }
 }

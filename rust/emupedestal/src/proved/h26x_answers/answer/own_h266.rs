@@ -3,7 +3,7 @@
 //! Formats of H.266 that RFC 9328, section 7.2, lets an end say of itself.
 
 use crate::proved::h26x_answers::answer::by_level::is_positive;
-use crate::proved::h26x_answers::fault::FormatFault;
+use crate::proved::h26x_answers::fault::{FormatFault, fault_outside};
 use crate::proved::h26x_profile::{H266Level, H266Profile};
 use crate::proved::h26x_sdp::{H266Parameter, H266Parameters};
 
@@ -48,6 +48,48 @@ fn reordering_fits(it: &H266Parameters) -> bool {
         || is_positive(it.number_or_default(H266Parameter::SpropDepackBufBytes))
 }
 
+/// What is wrong with what is said of packets out of order.
+fn reordering_fault(it: &H266Parameters) -> Option<FormatFault> {
+    if reordering_fits(it) {
+        None
+    } else {
+        Some(FormatFault::Reordering)
+    }
+}
+
+/// MaxLumaSr of a level, luma samples in a second, if the standard gives one (Rec. ITU-T H.266, table
+/// A.2).
+fn luma_rate_of(level: u64) -> Option<u64> {
+    match level {
+        16 => Some(552960),
+        32 => Some(3686400),
+        35 => Some(7372800),
+        48 => Some(16588800),
+        51 => Some(33177600),
+        64 => Some(66846720),
+        67 => Some(133693440),
+        80 => Some(267386880),
+        83 => Some(534773760),
+        86 | 96 => Some(1069547520),
+        99 => Some(2139095040),
+        102 => Some(4278190080),
+        105 => Some(4812963840),
+        _ => None,
+    }
+}
+
+/// The highest level that is received.
+fn highest_level(it: &H266Parameters) -> Option<u64> {
+    it.number(H266Parameter::MaxRecvLevelId)
+        .or(it.number_or_default(H266Parameter::LevelId))
+}
+
+/// What is wrong with the rate of luma samples, at the highest level that is received.
+fn rate_fault(it: &H266Parameters) -> Option<FormatFault> {
+    let rate = luma_rate_of(highest_level(it)?)?;
+    fault_outside(it, H266Parameter::MaxLsr, rate)
+}
+
 /// The first rule that a format of one's own breaks.
 pub(crate) fn fault(it: &H266Parameters) -> Option<FormatFault> {
     if !is_profile(it.number_or_default(H266Parameter::ProfileId)) {
@@ -59,9 +101,5 @@ pub(crate) fn fault(it: &H266Parameters) -> Option<FormatFault> {
     if !is_received_above(it) {
         return Some(FormatFault::HighestLevel);
     }
-    if reordering_fits(it) {
-        None
-    } else {
-        Some(FormatFault::Reordering)
-    }
+    rate_fault(it).or(reordering_fault(it))
 }
