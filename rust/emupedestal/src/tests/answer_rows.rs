@@ -31,6 +31,24 @@ fn answered<P: Parameter>(offer: &str, ours: &str) -> [String; 3] {
     })
 }
 
+/// What a peer answers, written as ours is.
+fn written<P: Parameter>(answer: &str) -> String {
+    match answer {
+        "-" => "-".into(),
+        it => it.parse::<CodecParameters<P>>().expect(it).to_string(),
+    }
+}
+
+/// What is written of a peer's answer.
+fn written_of(codec: &str, answer: &str) -> String {
+    match codec {
+        "h264" => written::<H264Parameter>(answer),
+        "h265" => written::<H265Parameter>(answer),
+        "h266" => written::<H266Parameter>(answer),
+        _ => panic!("{codec}"),
+    }
+}
+
 #[test]
 fn answers_of_the_text() {
     let rows = TEXT.lines().filter(|row| !row.starts_with('#'));
@@ -42,13 +60,17 @@ fn answers_of_the_text() {
         };
         let any_order = columns.get(4).copied().unwrap_or(wanted);
         let webrtc = columns.get(5).copied().unwrap_or(wanted);
-        let answer = match codec {
+        let answers = match codec {
             "h264" => answered::<H264Parameter>(offer, ours),
             "h265" => answered::<H265Parameter>(offer, ours),
             "h266" => answered::<H266Parameter>(offer, ours),
             _ => panic!("{row}"),
         };
-        assert_eq!(answer, [wanted, any_order, webrtc], "{row}");
+        assert_eq!(answers, [wanted, any_order, webrtc], "{row}");
+        if let Some(peers) = columns.get(7) {
+            let is_one = written_of(codec, peers) == webrtc;
+            assert_ne!(is_one, columns.len() > 8, "{row}");
+        }
         count += 1;
     }
     assert!(count > 40, "{count} rows");
@@ -64,7 +86,10 @@ fn breaks<P: Parameter>(line: &str, wanted: Option<BrokenRule<P>>) {
 /// By RFC 6184, 8.1, and table A-1 of H.264; RFC 7798, 7.1, and tables A.8 and A.9 of H.265; RFC 9328, 7.2.
 #[test]
 fn rules_that_are_broken() {
-    use BrokenRule::{BelowLevel, HighestLevel, Level, OutOfOrder, Profile, Reordering};
+    use BrokenRule::{
+        AboveLevel, AspectRatios, BelowLevel, HashTypes, HighestLevel, InBandSets, Level,
+        OutOfOrder, Profile, Reordering,
+    };
     breaks::<H264Parameter>("", None);
     breaks(
         "profile-level-id=42e007",
@@ -119,6 +144,17 @@ fn rules_that_are_broken() {
         "packetization-mode=1;sprop-init-buf-time=0",
         Some(Reordering),
     );
+    breaks::<H264Parameter>("profile-level-id=43e01f", Some(Profile));
+    breaks::<H264Parameter>("sar-supported=14", Some(AspectRatios));
+    breaks::<H264Parameter>("sar-understood=16;sar-supported=17", Some(AspectRatios));
+    breaks::<H264Parameter>("sar-understood=16;sar-supported=16", None);
+    breaks::<H264Parameter>("sar-supported=255", None);
+    breaks::<H264Parameter>(
+        "in-band-parameter-sets=1;use-level-src-parameter-sets=1",
+        Some(InBandSets),
+    );
+    breaks::<H264Parameter>("in-band-parameter-sets=1", None);
+    breaks::<H264Parameter>("use-level-src-parameter-sets=1", None);
     breaks::<H265Parameter>("", None);
     breaks::<H265Parameter>("profile-id=31", Some(Profile));
     breaks::<H265Parameter>("profile-space=1", Some(Profile));
@@ -141,7 +177,32 @@ fn rules_that_are_broken() {
         "sprop-max-don-diff=1;sprop-depack-buf-bytes=1",
         Some(Reordering),
     );
+    for (parameter, most) in [
+        (H265Parameter::MaxLsr, 16 * 33177600_u64),
+        (H265Parameter::MaxLps, 16 * 983040),
+        (H265Parameter::MaxCpb, 16 * 10000),
+        (H265Parameter::MaxBr, 16 * 10000),
+        (H265Parameter::MaxTr, 16 * 3),
+        (H265Parameter::MaxTc, 16 * 3),
+    ] {
+        breaks::<H265Parameter>(&format!("{parameter}={most}"), None);
+        let above = format!("{parameter}={}", most + 1);
+        breaks(&above, Some(AboveLevel(parameter)));
+    }
+    breaks::<H265Parameter>("max-dpb=16", None);
+    breaks::<H265Parameter>("include-dph=0,2", None);
+    breaks::<H265Parameter>("include-dph=", None);
+    breaks::<H265Parameter>("include-dph=0,256", Some(HashTypes));
+    breaks::<H265Parameter>("include-dph=0,,2", Some(HashTypes));
     breaks::<H266Parameter>("", None);
+    breaks("max-lsr=33177599", Some(BelowLevel(H266Parameter::MaxLsr)));
+    breaks::<H266Parameter>("max-lsr=530841600", None);
+    breaks("max-lsr=530841601", Some(AboveLevel(H266Parameter::MaxLsr)));
+    breaks(
+        "max-recv-level-id=64;max-lsr=33177600",
+        Some(BelowLevel(H266Parameter::MaxLsr)),
+    );
+    breaks::<H266Parameter>("level-id=255;max-lsr=1", None);
     breaks::<H266Parameter>("profile-id=2", Some(Profile));
     breaks::<H266Parameter>("level-id=52", Some(Level));
     breaks::<H266Parameter>("max-recv-level-id=51", Some(HighestLevel));
