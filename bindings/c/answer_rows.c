@@ -49,21 +49,58 @@ static void is_answered(struct tally *t, answering *by, const h26x_sdp *offered,
     h26x_sdp_free(answer);
 }
 
+/* Whether a peer's answer says the same as ours, which a row that tells why it doesn't has. */
+static void is_of_peer(struct tally *t, uint32_t codec, const char *answer, const char *ours, bool is_told)
+{
+    uint8_t to[LONGEST];
+    size_t len = 0;
+    bool is_one = strcmp(answer, "-") == 0 && strcmp(ours, "-") == 0;
+    if (strcmp(answer, "-") != 0) {
+        const h26x_sdp said = format_of(t, codec, answer);
+        expect_at(t, h26x_sdp_write(&said, to, sizeof to, &len) == H26X_OK, answer, __FILE__, __LINE__);
+        is_one = len == strlen(ours) && memcmp(to, ours, len) == 0;
+        h26x_sdp_free(said);
+    }
+    expect_at(t, is_one != is_told, answer, __FILE__, __LINE__);
+}
+
 static uint32_t answer_as_webrtc(const h26x_sdp *offered, const h26x_sdp *ours, h26x_sdp *made)
 {
     return h26x_sdp_answer_webrtc(offered, ours, false, made);
+}
+
+/* The same by options. */
+static uint32_t answer_in_order(const h26x_sdp *offered, const h26x_sdp *ours, h26x_sdp *made)
+{
+    return h26x_sdp_answer_with(offered, ours, 0, made);
+}
+
+static uint32_t answer_in_any_order(const h26x_sdp *offered, const h26x_sdp *ours, h26x_sdp *made)
+{
+    return h26x_sdp_answer_with(offered, ours, H26X_SDP_ANY_ORDER, made);
+}
+
+static uint32_t answer_as_webrtc_has_it(const h26x_sdp *offered, const h26x_sdp *ours, h26x_sdp *made)
+{
+    return h26x_sdp_answer_with(offered, ours, H26X_SDP_WEBRTC, made);
 }
 
 static void walk(struct tally *t, char *row)
 {
     const char *codec = next_column(&row), *offer = next_column(&row), *own = next_column(&row),
                *wanted = next_column(&row), *any_order = *row != 0 ? next_column(&row) : wanted,
-               *webrtc = *row != 0 ? next_column(&row) : wanted;
+               *webrtc = *row != 0 ? next_column(&row) : wanted, *peer = next_column(&row), *peers = next_column(&row),
+               *why = next_column(&row);
     const uint32_t number = strcmp(codec, "h264") == 0 ? H26X_H264 : strcmp(codec, "h265") == 0 ? H26X_H265 : H26X_H266;
     const h26x_sdp offered = format_of(t, number, offer), ours = format_of(t, number, own);
     is_answered(t, h26x_sdp_answer, &offered, &ours, wanted);
     is_answered(t, h26x_sdp_answer_any_order, &offered, &ours, any_order);
     is_answered(t, answer_as_webrtc, &offered, &ours, webrtc);
+    is_answered(t, answer_in_order, &offered, &ours, wanted);
+    is_answered(t, answer_in_any_order, &offered, &ours, any_order);
+    is_answered(t, answer_as_webrtc_has_it, &offered, &ours, webrtc);
+    if (*peer != 0)
+        is_of_peer(t, number, peers, webrtc, *why != 0);
     h26x_sdp_free(offered);
     h26x_sdp_free(ours);
 }

@@ -150,6 +150,7 @@ static void *run(void *at)
         check_looking(&work->tally);
         check_profiles(&work->tally);
         check_sdp(&work->tally);
+        check_sdp_rows(&work->tally);
         check_answer_rows(&work->tally);
         check_unit_rows(&work->tally);
         check_datagrams(&work->tally);

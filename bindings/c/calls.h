@@ -40,6 +40,7 @@ void check_looking(struct tally *t);
 void check_cutting(struct tally *t);
 void check_profiles(struct tally *t);
 void check_sdp(struct tally *t);
+void check_sdp_rows(struct tally *t);
 void check_answer_rows(struct tally *t);
 void check_unit_rows(struct tally *t);
 void check_datagrams(struct tally *t);

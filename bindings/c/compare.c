@@ -28,6 +28,7 @@
     X(access_units_new) X(rtp_receiver_new) X(packetizer_free) X(depacketizer_free)                \
     X(receiver_free) X(access_units_free) X(rtp_receiver_free) X(sdp_free) X(h265_paci_packet)      \
     X(sdp_read) X(sdp_of_payload) X(fits_single_units) X(rtpmap_read) X(rtpmap_write)              \
+    X(repairmap_read) X(repairmap_write) X(rtx_format_read) X(rtx_format_write)                    \
     X(is_partition_head) X(is_partition_tail) X(detect_keyframe) X(detect_h264_nalu) X(next_unit)  \
     X(set_lowest_header) X(begins_keyframe)                                                        \
     X(is_rtcp) X(rtp_read) X(rtp_original) X(rtp_write) X(rtp_write_before) X(rtx_write)           \
@@ -51,8 +52,9 @@
     X(rtp_receiver_sources) X(rtp_receiver_deadline) X(rtp_receiver_nacks) X(rtp_receiver_finish)  \
     X(rtp_receiver_keyframe_wanted) X(rtp_receiver_statistics) X(rtp_receiver_report)              \
     X(rtp_receiver_count)                                                                          \
-    X(sdp_answer) X(sdp_codec) X(sdp_write) X(sdp_value) X(sdp_number) X(sdp_units) X(sdp_unit) X(sdp_other)     \
-    X(sdp_max_don_diff) X(sdp_constraints) X(sdp_capability_points)
+    X(sdp_answer) X(sdp_answer_with) X(sdp_broken_rule) X(sdp_name) X(sdp_codec) X(sdp_write) X(sdp_set) X(sdp_unset) X(sdp_value) X(sdp_number)    \
+    X(sdp_units) X(sdp_unit) X(sdp_other) X(sdp_max_don_diff) X(sdp_constraints)                   \
+    X(sdp_capability_points)
 
 struct library {
 #define POINTER(name) __typeof__(h26x_##name) *name;
@@ -180,7 +182,11 @@ static void draw_input(enum call call, uint32_t codec)
         draw_format(&input, codec);
         break;
     case CALL_rtpmap_read:
+    case CALL_repairmap_read:
         draw_rtpmap(&input);
+        break;
+    case CALL_rtx_format_read:
+        draw_rtx_format(&input);
         break;
     case CALL_is_rtcp:
     case CALL_rtp_read:
@@ -196,6 +202,8 @@ static void draw_input(enum call call, uint32_t codec)
     case CALL_red_primary:
         draw_red(&input);
         break;
+    case CALL_sdp_set:
+    case CALL_sdp_unset:
     case CALL_sdp_value:
     case CALL_sdp_number:
     case CALL_sdp_units:
@@ -226,6 +234,8 @@ static struct drawn draw_all(void)
     d.codec = any_codec();
     draw_input(d.call, d.call == CALL_sdp_read ? d.codec : h->kind != NONE ? h->codec : 264 + below(3));
     draw_few(&extension, 40);
+    if (d.call == CALL_sdp_set)
+        draw_value(&extension, h->codec);
      d.x = draw(), d.y = draw(), d.z = draw();
     d.wants = one_in(6) ? draw() : UINT32_MAX;
     d.numbers = one_in(2), d.avc = one_in(2);
@@ -542,10 +552,18 @@ static uint64_t describes(int s, const struct drawn *d, struct answer *a, struct
     size_t *len = WANTED(0, &o->count);
     h26x_refusal *why = WANTED(3, &o->why);
     switch (d->call) {
+    case CALL_sdp_broken_rule:
+        return l->sdp_broken_rule(F, d->x % 5, why);
+    case CALL_sdp_name:
+        return l->sdp_name(F, d->x % 32, to, d->y % 40, len);
     case CALL_sdp_codec:
         return l->sdp_codec(F);
     case CALL_sdp_write:
         return l->sdp_write(F, to, d->room, len);
+    case CALL_sdp_set:
+        return l->sdp_set(F, d->bytes, d->len, d->extension, d->extension_len);
+    case CALL_sdp_unset:
+        return l->sdp_unset(F, d->bytes, d->len);
     case CALL_sdp_value:
         return l->sdp_value(F, d->bytes, d->len, d->numbers, to, d->room % 40, len);
     case CALL_sdp_number:
@@ -683,6 +701,16 @@ static uint64_t wraps(int s, const struct drawn *d, struct answer *a, struct out
     }
 }
 
+/* Reads a format of retransmission, whose parts go to numbers. */
+static uint64_t reads_rtx(const struct library *l, const struct drawn *d, struct outputs *o)
+{
+    h26x_rtx_format it = {.rtx_time = 9};
+    const uint64_t code = l->rtx_format_read(d->bytes, d->len, WANTED(0, &it), WANTED(3, &o->why));
+    o->value = it.rtx_time;
+    o->number = (uint32_t)it.payload_type << 1 | it.has_rtx_time;
+    return code;
+}
+
 static uint64_t looks(int s, const struct drawn *d, struct answer *a, struct outputs *o)
 {
     const struct library *l = &libraries[s];
@@ -717,6 +745,15 @@ static uint64_t looks(int s, const struct drawn *d, struct answer *a, struct out
         return l->rtpmap_read(d->bytes, d->len, WANTED(0, &o->profile), WANTED(4, &o->number));
     case CALL_rtpmap_write:
         return l->rtpmap_write((uint8_t)d->x, d->codec, d->has_to ? a->to : NULL, d->y % 20, WANTED(0, &o->count));
+    case CALL_repairmap_read:
+        return l->repairmap_read(d->bytes, d->len, WANTED(0, &o->profile), WANTED(4, &o->number));
+    case CALL_repairmap_write:
+        return l->repairmap_write((uint8_t)d->x, d->z % 7, d->has_to ? a->to : NULL, d->y % 20, WANTED(0, &o->count));
+    case CALL_rtx_format_read:
+        return reads_rtx(l, d, o);
+    case CALL_rtx_format_write:
+        return l->rtx_format_write(&(h26x_rtx_format){d->y, (uint8_t)d->x, d->z % 2}, d->has_to ? a->to : NULL, d->z % 40,
+                                   WANTED(0, &o->count));
     case CALL_h264_profile_level:
         return l->h264_profile_level(profile_level_id(d), WANTED(0, &o->profile), WANTED(1, &o->level));
     case CALL_h265_is_known:
@@ -753,6 +790,9 @@ static void *makes(int s, const struct drawn *d, struct answer *a, struct output
         return f.at;
     case CALL_sdp_answer:
         a->result = l->sdp_answer(F, &(h26x_sdp){d->other_h->at[s]}, &f);
+        return f.at;
+    case CALL_sdp_answer_with:
+        a->result = l->sdp_answer_with(F, &(h26x_sdp){d->other_h->at[s]}, d->x % 33, &f);
         return f.at;
     case CALL_packetizer_new:
         a->result = l->packetizer_new(d->codec, d->numbers, &p);
@@ -794,6 +834,7 @@ static enum kind kind_made(enum call call)
     case CALL_sdp_read:
     case CALL_sdp_of_payload:
     case CALL_sdp_answer:
+    case CALL_sdp_answer_with:
         return SDP;
     default:
         return NONE;
@@ -870,7 +911,7 @@ static void *give(int s, const struct drawn *d)
     memset(a->to, 0xee, sizeof a->to);
     memset(a->ends, 0xff, sizeof a->ends);
     if (d->call == CALL_codec_name || d->call == CALL_strerror) {
-        const char *text = d->call == CALL_strerror ? libraries[s].strerror(d->x % 64)
+        const char *text = d->call == CALL_strerror ? libraries[s].strerror(d->x % 80)
                                                     : libraries[s].codec_name(d->codec);
         snprintf(a->text, sizeof a->text, "%s", text != NULL ? text : "none");
     } else if (kind_made(d->call) != NONE)
@@ -944,7 +985,7 @@ static void take_up(const struct drawn *d, void *const made[2])
 static bool is_none(const struct drawn *d)
 {
     return (d->call == CALL_depacketizer_same && (d->other_h->kind == NONE || d->other_h == d->h))
-        || (d->call == CALL_sdp_answer && d->other_h->kind == NONE);
+        || ((d->call == CALL_sdp_answer || d->call == CALL_sdp_answer_with) && d->other_h->kind == NONE);
 }
 
 /* Keeps the packets that were copied. */

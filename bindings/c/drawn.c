@@ -358,13 +358,32 @@ void draw_name(struct bytes *it, uint32_t codec)
     add_text(it, any_parameter(codec).name);
 }
 
+void draw_value(struct bytes *it, uint32_t codec)
+{
+    it->len = 0;
+    add_text(it, one_in(3) ? any_value() : drawn_value(codec));
+    add_text(it, one_in(12) ? ";x=1" : one_in(6) ? " " : "");
+}
+
 void draw_rtpmap(struct bytes *it)
 {
     static const char *const types[] = {"96", "0", "127", "128", " 9", "x", "", NULL};
-    static const char *const encodings[] = {" H264", " H265", " h266", " VP8", "H264", "  H264", NULL};
+    static const char *const encodings[] = {" H264", " H265", " h266", " VP8", "H264", "  H264", " rtx", " RED", " ulpfec",
+                                            " flexfec", " FlexFEC-03", " flexfec-3", NULL};
     static const char *const clocks[] = {"/90000", "/90000", "/90000 ", "/48000", "/90000/1", "", NULL};
     it->len = 0;
     add_text(it, one_of(types));
     add_text(it, one_of(encodings));
     add_text(it, one_of(clocks));
+}
+
+void draw_rtx_format(struct bytes *it)
+{
+    static const char *const parts[] = {"apt=96", "apt=0", "APT = 127", "apt=128", "apt=", "rtx-time=3000", "Rtx-Time=0",
+                                        "rtx-time=18446744073709551616", "x=1", "x={", "", NULL};
+    it->len = 0;
+    for (uint32_t many = below(4); many > 0; many--) {
+        add_text(it, one_of(parts));
+        add_text(it, one_in(6) ? " ;; " : ";");
+    }
 }

@@ -40,7 +40,9 @@ void draw_red(struct bytes *it);
  * line. */
 void draw_format(struct bytes *it, uint32_t codec);
 void draw_name(struct bytes *it, uint32_t codec);
+void draw_value(struct bytes *it, uint32_t codec);
 void draw_rtpmap(struct bytes *it);
+void draw_rtx_format(struct bytes *it);
 
 /* A few bytes. */
 void draw_few(struct bytes *it, size_t most);

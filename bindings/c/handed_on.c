@@ -92,6 +92,7 @@ static struct {
     h26x_rtp_payload payloads[ROOM];
     h26x_push_told pushed[ROOM];
     h26x_receive_told received[ROOM];
+    h26x_rtx_format rtx;
 } there;
 
 /* What a call is given, and what it is to answer. */
@@ -119,6 +120,7 @@ static struct {
     h26x_rtp_payload *payloads;
     h26x_push_told *pushed;
     h26x_receive_told *received;
+    h26x_rtx_format *rtx;
     size_t payloads_len, pushed_room, received_room;
     size_t value, other_value;
     uint32_t answer;
@@ -154,7 +156,8 @@ enum {
     STATISTICS = 33554432,
     PAYLOADS = 67108864,
     PUSHED = 134217728,
-    RECEIVED = 268435456
+    RECEIVED = 268435456,
+    RTX = 536870912
 };
 
 static size_t handed_on;
@@ -187,6 +190,7 @@ static void give(unsigned which)
     given.long_number = ANY(which & LONG_NUMBER, &there.long_number);
     given.to_too.at = ANY(which & TO_TOO, there.to_too);
     given.said = ANY(which & SAID, &there.said);
+    given.rtx = ANY(which & RTX, &there.rtx);
     given.points = ANY(which & POINTS, there.points);
     given.packet = ANY(which & PACKET, &there.packet);
     given.report = ANY(which & REPORT, &there.report);
@@ -1448,6 +1452,35 @@ static void check_sdp_of_payload(void)
     hands_on(h26x_sdp_of_payload((uint32_t)given.value, given.in.at, given.in.len, &made_format));
 }
 
+STUB(sdp_broken_rule);
+uint32_t proved_sdp_broken_rule(const h26x_sdp *h, uint32_t options, h26x_refusal *why)
+{
+    expect(h == &format && options == (uint32_t)given.value);
+    is_output(why, given.why);
+    return answer();
+}
+
+static void check_sdp_broken_rule(void)
+{
+    give(WHY);
+    hands_on(h26x_sdp_broken_rule(&format, (uint32_t)given.value, given.why));
+}
+
+STUB(sdp_name);
+uint32_t proved_sdp_name(const h26x_sdp *h, size_t i, uint8_t *to, size_t room, size_t *len)
+{
+    expect(h == &format && i == given.value);
+    writes_to(to, room);
+    is_output(len, given.first);
+    return answer();
+}
+
+static void check_sdp_name(void)
+{
+    give(TO | FIRST);
+    hands_on(h26x_sdp_name(&format, given.value, given.to.at, given.to.len, given.first));
+}
+
 STUB(sdp_write);
 uint32_t proved_sdp_write(const h26x_sdp *h, uint8_t *to, size_t room, size_t *len)
 {
@@ -1461,6 +1494,35 @@ static void check_sdp_write(void)
 {
     give(TO | FIRST);
     hands_on(h26x_sdp_write(&format, given.to.at, given.to.len, given.first));
+}
+
+STUB(sdp_set);
+uint32_t proved_sdp_set(h26x_sdp *h, const uint8_t *name, size_t name_len, const uint8_t *value, size_t value_len)
+{
+    expect(h == &format);
+    reads(name, name_len, given.in);
+    reads(value, value_len, given.extension);
+    return answer();
+}
+
+static void check_sdp_set(void)
+{
+    give(IN | EXTENSION);
+    hands_on(h26x_sdp_set(&format, given.in.at, given.in.len, given.extension.at, given.extension.len));
+}
+
+STUB(sdp_unset);
+uint32_t proved_sdp_unset(h26x_sdp *h, const uint8_t *name, size_t name_len)
+{
+    expect(h == &format);
+    reads(name, name_len, given.in);
+    return answer();
+}
+
+static void check_sdp_unset(void)
+{
+    give(IN);
+    hands_on(h26x_sdp_unset(&format, given.in.at, given.in.len));
 }
 
 STUB(sdp_value);
@@ -1644,6 +1706,67 @@ static void check_rtpmap_write(void)
                                given.first));
 }
 
+STUB(repairmap_read);
+uint32_t proved_repairmap_read(const uint8_t *text, size_t text_len, uint8_t *payload_type, uint32_t *repair)
+{
+    reads(text, text_len, given.in);
+    is_output(payload_type, given.small);
+    is_output(repair, given.number);
+    return answer();
+}
+
+static void check_repairmap_read(void)
+{
+    give(IN | SMALL | NUMBER);
+    hands_on(h26x_repairmap_read(given.in.at, given.in.len, given.small, given.number));
+}
+
+STUB(repairmap_write);
+uint32_t proved_repairmap_write(uint8_t payload_type, uint32_t repair, uint8_t *to, size_t room, size_t *len)
+{
+    expect(payload_type == (uint8_t)given.value && repair == (uint32_t)given.other_value);
+    writes_to(to, room);
+    is_output(len, given.first);
+    return answer();
+}
+
+static void check_repairmap_write(void)
+{
+    give(TO | FIRST);
+    hands_on(h26x_repairmap_write((uint8_t)given.value, (uint32_t)given.other_value, given.to.at, given.to.len,
+                                  given.first));
+}
+
+STUB(rtx_format_read);
+uint32_t proved_rtx_format_read(const uint8_t *text, size_t text_len, h26x_rtx_format *rtx, h26x_refusal *why)
+{
+    reads(text, text_len, given.in);
+    is_output(rtx, given.rtx);
+    is_output(why, given.why);
+    return answer();
+}
+
+static void check_rtx_format_read(void)
+{
+    give(IN | RTX | WHY);
+    hands_on(h26x_rtx_format_read(given.in.at, given.in.len, given.rtx, given.why));
+}
+
+STUB(rtx_format_write);
+uint32_t proved_rtx_format_write(const h26x_rtx_format *rtx, uint8_t *to, size_t room, size_t *len)
+{
+    expect(rtx == &there.rtx);
+    writes_to(to, room);
+    is_output(len, given.first);
+    return answer();
+}
+
+static void check_rtx_format_write(void)
+{
+    give(TO | FIRST);
+    hands_on(h26x_rtx_format_write(&there.rtx, given.to.at, given.to.len, given.first));
+}
+
 int main(void)
 {
     in_each_case(check_packetizer_free);
@@ -1714,7 +1837,11 @@ int main(void)
     in_each_case(check_sdp_free);
     in_each_case(check_sdp_read);
     in_each_case(check_sdp_of_payload);
+    in_each_case(check_sdp_broken_rule);
+    in_each_case(check_sdp_name);
     in_each_case(check_sdp_write);
+    in_each_case(check_sdp_set);
+    in_each_case(check_sdp_unset);
     in_each_case(check_sdp_value);
     in_each_case(check_sdp_number);
     in_each_case(check_sdp_units);
@@ -1726,6 +1853,10 @@ int main(void)
     in_each_case(check_fits_single_units);
     in_each_case(check_rtpmap_read);
     in_each_case(check_rtpmap_write);
+    in_each_case(check_repairmap_read);
+    in_each_case(check_repairmap_write);
+    in_each_case(check_rtx_format_read);
+    in_each_case(check_rtx_format_write);
 #ifndef __CPROVER__
     printf("%zu cases\n", cases);
 #endif

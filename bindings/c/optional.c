@@ -284,15 +284,15 @@ static void check_frees(struct tally *t)
 static bool is_code(uint32_t n)
 {
     return n <= H26X_UNIT_TOO_LONG || (H26X_SDP_OPEN_BRACE <= n && n <= H26X_SDP_NO_PROFILE)
-        || (H26X_SDP_NO_ANSWER <= n && n <= H26X_SDP_LONG_CONSTRAINTS)
-        || (H26X_RTP_TOO_SHORT <= n && n <= H26X_RED_BLOCKS_PAST_THE_END);
+        || (H26X_SDP_NO_ANSWER <= n && n <= H26X_SDP_NOT_A_VALUE)
+        || (H26X_RTP_TOO_SHORT <= n && n <= H26X_SDP_RULE_HASH_TYPES);
 }
 
 /* Each code has words of its own, and so do numbers that are none. */
 static void check_words(struct tally *t)
 {
     char version[16];
-    for (uint32_t code = 0; code <= H26X_RED_BLOCKS_PAST_THE_END + 1; code++) {
+    for (uint32_t code = 0; code <= H26X_SDP_RULE_HASH_TYPES + 1; code++) {
         for (uint32_t other = 0; other < code; other++)
             expect(t, (strcmp(h26x_strerror(code), h26x_strerror(other)) == 0) == (!is_code(code) && !is_code(other)));
         expect(t, is_code(code) == (strcmp(h26x_strerror(code), h26x_strerror(UINT32_MAX)) != 0));

@@ -796,6 +796,15 @@ static const struct format {
     {H26X_H266, "level-id=83;sprop-dci=AGk=;x=1", "sprop-dci"},
 };
 
+/* Whether this is what is written of parameters. */
+static bool is_text(const h26x_sdp *it, const char *text)
+{
+    uint8_t written[200];
+    size_t len = 0;
+    return h26x_sdp_write(it, written, sizeof written, &len) == H26X_OK && len == strlen(text)
+           && memcmp(written, text, len) == 0;
+}
+
 static void refuse_formats(const struct format *f)
 {
     h26x_sdp it = {NULL}, answer = {NULL};
@@ -805,6 +814,11 @@ static void refuse_formats(const struct format *f)
     uint32_t number;
     refuse_each(h26x_sdp_read(f->codec, TEXT(f->line), &it, &why), it.at == NULL && why.first == 0);
     refuse_each(h26x_sdp_answer(&it, &it, &answer), answer.at == NULL);
+    h26x_sdp_close(&answer);
+    refuse_each(h26x_sdp_answer_with(&it, &it, H26X_SDP_ANY_ORDER | H26X_SDP_WEBRTC, &answer), answer.at == NULL);
+    without_memory(h26x_sdp_broken_rule(&it, 0, &why) == H26X_OK);
+    without_memory(h26x_sdp_name(&it, 0, to, sizeof to, &len) == H26X_OK && len > 9);
+    len = 0;
     memset(to, 0xee, sizeof to);
     refuse_each(h26x_sdp_write(&it, to, sizeof to, &len), len == 0 && to[0] == 0xee);
     expect(len == strlen(f->line) && memcmp(to, f->line, len) == 0);
@@ -819,6 +833,13 @@ static void refuse_formats(const struct format *f)
     without_memory(h26x_sdp_max_don_diff(&it, &number)
                    == (f->codec == H26X_H264 ? H26X_NOT_OF_THIS_CODEC : H26X_OK));
     without_memory(h26x_sdp_codec(&it) == f->codec);
+    without_memory(h26x_sdp_set(&it, TEXT("x"), TEXT("2")) == H26X_SDP_UNKNOWN_NAME);
+    without_memory(h26x_sdp_set(&it, TEXT("SPROP-MAX-DON-DIFF"), TEXT("x")) == H26X_SDP_NOT_A_NUMBER);
+    without_memory(h26x_sdp_unset(&it, TEXT("x")) == H26X_SDP_UNKNOWN_NAME);
+    refuse_each(h26x_sdp_set(&it, TEXT("SPROP-MAX-DON-DIFF"), TEXT("2")), is_text(&it, f->line));
+    refuse_each(h26x_sdp_unset(&it, TEXT("sprop-max-don-diff")),
+                h26x_sdp_number(&it, TEXT("sprop-max-don-diff"), false, &value) == H26X_OK && value == 2);
+    expect(is_text(&it, f->line));
     without_memory(h26x_sdp_read(f->codec, TEXT("x={"), &answer, &why) == H26X_SDP_OPEN_BRACE);
     h26x_sdp_free(it);
     h26x_sdp_free(answer);
@@ -862,6 +883,21 @@ static void refuse_offers(void)
     expect(len == 13 && memcmp(to, "96 H265/90000", 13) == 0);
     without_memory(h26x_rtpmap_read(to, len, &payload_type, &codec) == H26X_OK && codec == H26X_H265);
     without_memory(h26x_fits_single_units(sets, sizeof sets, 4));
+
+    uint32_t repair;
+    h26x_rtx_format rtx = {.rtx_time = 9};
+    h26x_refusal why = {7, 8};
+    memset(to, 0xee, sizeof to);
+    len = 0;
+    refuse_each(h26x_repairmap_write(97, H26X_REPAIR_RTX, to, sizeof to, &len), len == 0 && to[0] == 0xee);
+    expect(len == 12 && memcmp(to, "97 rtx/90000", 12) == 0);
+    without_memory(h26x_repairmap_read(to, len, &payload_type, &repair) == H26X_OK && repair == H26X_REPAIR_RTX);
+    refuse_each(h26x_rtx_format_read(TEXT("apt=96;rtx-time=3000"), &rtx, &why), rtx.rtx_time == 9);
+    expect(rtx.rtx_time == 3000 && rtx.payload_type == 96 && rtx.has_rtx_time);
+    memset(to, 0xee, sizeof to);
+    len = 0;
+    refuse_each(h26x_rtx_format_write(&rtx, to, sizeof to, &len), len == 0 && to[0] == 0xee);
+    expect(len == 20 && memcmp(to, "apt=96;rtx-time=3000", 20) == 0);
 }
 
 /* The packets of the unit in one buffer, and where each is there; how many they are. */

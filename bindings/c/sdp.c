@@ -196,7 +196,21 @@ static void check_values(struct tally *t)
     h26x_sdp_free(it);
 }
 
-/* Every name of each RFC is known to its codec. */
+/* The name of a place, in as much room as it takes and in less. */
+static void name_is(struct tally *t, const h26x_sdp *it, size_t place, const char *name)
+{
+    uint8_t to[32];
+    size_t len = 99;
+    const size_t all = strlen(name);
+    memset(to, 0xee, sizeof to);
+    expect_at(t, h26x_sdp_name(it, place, to, all, &len) == H26X_OK && len == all, name, __FILE__, __LINE__);
+    expect_at(t, memcmp(to, name, all) == 0 && to[all] == 0xee, name, __FILE__, __LINE__);
+    memset(to, 0xee, sizeof to);
+    expect_at(t, h26x_sdp_name(it, place, to, all - 1, &len) == H26X_NO_ROOM, name, __FILE__, __LINE__);
+    expect_at(t, len == all && to[0] == 0xee, name, __FILE__, __LINE__);
+}
+
+/* Every name of each RFC is known to its codec, and stands in its place. */
 static void check_names(struct tally *t)
 {
     static const char *const of_264[] = {
@@ -220,8 +234,16 @@ static void check_names(struct tally *t)
     static const char *const *const names[] = {of_264, of_265, of_266};
     for (size_t i = 0; i < 3; i++) {
         h26x_sdp it = format_of(t, H26X_H264 + (uint32_t)i, "");
-        for (size_t n = 0; names[i][n] != NULL; n++)
+        size_t n = 0;
+        for (; names[i][n] != NULL; n++) {
             value_is(t, &it, names[i][n], false, H26X_SDP_ABSENT, NULL);
+            name_is(t, &it, n, names[i][n]);
+        }
+        const size_t past[] = {n, n + 1, SIZE_MAX};
+        for (size_t p = 0; p < 3; p++) {
+            size_t len = 99;
+            expect(t, h26x_sdp_name(&it, past[p], NULL, 0, &len) == H26X_SDP_ABSENT && len == 99);
+        }
         h26x_sdp_free(it);
     }
 }
@@ -282,6 +304,54 @@ static void check_units(struct tally *t)
     has_no_units(t, H26X_H264, "sprop-parameter-sets=Z0I=,ZYg=", "sprop-parameter-sets", H26X_SDP_OTHER_TYPE, 1);
     has_no_units(t, H26X_H264, "sprop-parameter-sets=ZwAAAWU=", "sprop-parameter-sets", H26X_SDP_START_CODE, 0);
     has_no_units(t, H26X_H265, "sprop-vps=QgEB", "sprop-vps", H26X_SDP_OTHER_TYPE, 0);
+}
+
+/* A value that is given leaves white space out; one that isn't one changes nothing. */
+static void check_set(struct tally *t)
+{
+    const struct {
+        const char *name, *value;
+        uint32_t code;
+    } refused[] = {
+        {"packetization-mode", "3", H26X_SDP_OUT_OF_RANGE},     {"packetization-mode", "+1", H26X_SDP_NOT_A_NUMBER},
+        {"packetization-mode", "", H26X_SDP_NOT_A_NUMBER},      {"packetization-mode", " \r\n", H26X_SDP_NOT_A_NUMBER},
+        {"packetization-mode", "1;", H26X_SDP_NOT_A_VALUE},     {"packetization-mode", "1;x=1", H26X_SDP_NOT_A_VALUE},
+        {"profile-level-id", "42e01", H26X_SDP_NOT_HEXADECIMAL}, {"profile-level-id", "42e01f{", H26X_SDP_NOT_A_VALUE},
+        {"level-id", "93", H26X_SDP_UNKNOWN_NAME},              {"x", "2", H26X_SDP_UNKNOWN_NAME},
+        {"", "2", H26X_SDP_UNKNOWN_NAME},                       {" packetization-mode", "1", H26X_SDP_UNKNOWN_NAME},
+    };
+    h26x_sdp it = format_of(t, H26X_H264, "packetization-mode=1;x=1");
+    for (size_t i = 0; i < sizeof refused / sizeof refused[0]; i++) {
+        expect_at(t, h26x_sdp_set(&it, TEXT(refused[i].name), TEXT(refused[i].value)) == refused[i].code,
+                  refused[i].value, __FILE__, __LINE__);
+        is_written(t, &it, "packetization-mode=1;x=1");
+    }
+    expect(t, h26x_sdp_set(&it, TEXT("Profile-Level-ID"), TEXT(" \t42e01f\r\n")) == H26X_OK);
+    is_written(t, &it, "profile-level-id=42e01f;packetization-mode=1;x=1");
+    expect(t, h26x_sdp_unset(&it, TEXT("PACKETIZATION-MODE")) == H26X_OK);
+    expect(t, h26x_sdp_unset(&it, TEXT("packetization-mode")) == H26X_OK);
+    expect(t, h26x_sdp_unset(&it, TEXT("x")) == H26X_SDP_UNKNOWN_NAME);
+    is_written(t, &it, "profile-level-id=42e01f;x=1");
+    /* Units are those that were set last. */
+    expect(t, h26x_sdp_set(&it, TEXT("sprop-parameter-sets"), TEXT("Z0IACpZTBYmI,aMljiA==")) == H26X_OK);
+    units_are(t, &it, "sprop-parameter-sets", "6742000a9653058988|68c96388");
+    expect(t, h26x_sdp_set(&it, TEXT("sprop-parameter-sets"), TEXT("aMljiA==")) == H26X_OK);
+    units_are(t, &it, "sprop-parameter-sets", "68c96388");
+    expect(t, h26x_sdp_unset(&it, TEXT("sprop-parameter-sets")) == H26X_OK);
+    value_is(t, &it, "sprop-parameter-sets", false, H26X_SDP_ABSENT, NULL);
+    h26x_sdp_free(it);
+    /* Of a payload, and in braces. */
+    struct bytes sets = bytes_of("000001 6742c00a 000001 68cb");
+    expect(t, h26x_sdp_of_payload(H26X_H264, sets.at, sets.len, &it) == H26X_OK);
+    expect(t, h26x_sdp_unset(&it, TEXT("sprop-parameter-sets")) == H26X_OK);
+    expect(t, h26x_sdp_set(&it, TEXT("profile-level-id"), TEXT("42c01f")) == H26X_OK);
+    is_written(t, &it, "profile-level-id=42c01f;packetization-mode=1");
+    h26x_sdp_free(it);
+    it = format_of(t, H26X_H265, "level-id=93");
+    expect(t, h26x_sdp_set(&it, TEXT("dec-parallel-cap"), TEXT("{w:8;level-id=93}")) == H26X_OK);
+    expect(t, h26x_sdp_set(&it, TEXT("dec-parallel-cap"), TEXT("{w:8;level-id=93")) == H26X_SDP_NOT_A_VALUE);
+    is_written(t, &it, "level-id=93;dec-parallel-cap={w:8;level-id=93}");
+    h26x_sdp_free(it);
 }
 
 /* What no RFC has, in its order. */
@@ -360,8 +430,15 @@ static void check_answers(struct tally *t)
     answers(t, H26X_H266, "profile-id=1;level-id=83;sprop-max-don-diff=0", "level-id=51", "profile-id=1;level-id=51");
     answers(t, H26X_H266, "profile-id=17", "profile-id=17;level-id=51", "profile-id=17");
     answers(t, H26X_H266, "profile-id=17", "profile-id=33", NULL);
-    /* Two codecs have nothing in common. */
+    /* Two codecs have nothing in common, and no option has another bit. */
     h26x_sdp a = format_of(t, H26X_H264, ""), b = format_of(t, H26X_H265, ""), made = {NULL};
+    const uint32_t others[] = {12, 32, 1u << 31, UINT32_MAX};
+    for (size_t i = 0; i < 4; i++) {
+        h26x_refusal why = {7, 8};
+        expect(t, h26x_sdp_answer_with(&a, &a, others[i], &made) == H26X_OUT_OF_RANGE && made.at == NULL);
+        expect(t, h26x_sdp_broken_rule(&a, others[i], &why) == H26X_OUT_OF_RANGE && why.first == 0 && why.second == 0);
+    }
+    expect(t, h26x_sdp_answer_with(&a, &b, 0, &made) == H26X_SDP_NO_ANSWER && made.at == NULL);
     expect(t, h26x_sdp_answer(&a, &b, &made) == H26X_SDP_NO_ANSWER && made.at == NULL);
     h26x_sdp_free(a);
     h26x_sdp_free(b);
@@ -621,6 +698,46 @@ static void check_rtpmaps(struct tally *t)
     expect(t, h26x_rtpmap_write(0, H26X_H265, NULL, 16, NULL) == H26X_NO_ROOM);
 }
 
+/* What goes beside video: RFC 4588, 8.3 and 8.6; RFC 2198, 5; RFC 5109, 13.2; RFC 8627, 5.1.2. Others are rows of
+ * streams/sdp.txt. */
+static void check_repair(struct tally *t)
+{
+    uint8_t to[64], payload_type = 99;
+    uint32_t format = 99;
+    size_t len = 99;
+    h26x_refusal why = {7, 8};
+    expect(t, h26x_repairmap_read(TEXT(" 97 RTX/90000\r\n"), &payload_type, &format) == H26X_OK);
+    expect(t, payload_type == 97 && format == H26X_REPAIR_RTX);
+    expect(t, h26x_repairmap_read(TEXT("98 H264/90000"), &payload_type, &format) == H26X_SDP_ENCODING_NAME);
+    expect(t, payload_type == 97 && format == H26X_REPAIR_RTX);
+    memset(to, 0xee, sizeof to);
+    expect(t, h26x_repairmap_write(97, H26X_REPAIR_RTX, to, 11, &len) == H26X_NO_ROOM && len == 12 && to[0] == 0xee);
+    expect(t, h26x_repairmap_write(97, H26X_REPAIR_RTX, to, 12, &len) == H26X_OK && memcmp(to, "97 rtx/90000", 12) == 0);
+    len = 99;
+    expect(t, h26x_repairmap_write(128, H26X_REPAIR_RTX, to, 64, &len) == H26X_SDP_PAYLOAD_TYPE && len == 99);
+    expect(t, h26x_repairmap_write(97, 0, to, 64, &len) == H26X_OUT_OF_RANGE && len == 99);
+    expect(t, h26x_repairmap_write(128, 6, to, 64, &len) == H26X_OUT_OF_RANGE && len == 99);
+
+    h26x_rtx_format rtx = {9, 9, true};
+    expect(t, h26x_rtx_format_read(TEXT("apt=96;rtx-time=x"), &rtx, &why) == H26X_SDP_NOT_A_NUMBER);
+    expect(t, why.first == 1 && why.second == 0);
+    expect(t, h26x_rtx_format_read(TEXT("x={"), &rtx, &why) == H26X_SDP_OPEN_BRACE && why.first == 0);
+    expect(t, h26x_rtx_format_read(TEXT("rtx-time=3000"), &rtx, &why) == H26X_SDP_NO_APT && why.first == 0);
+    expect(t, rtx.rtx_time == 9 && rtx.payload_type == 9 && rtx.has_rtx_time);
+    why = (h26x_refusal){7, 8};
+    expect(t, h26x_rtx_format_read(TEXT("apt=96"), &rtx, &why) == H26X_OK && why.first == 7 && why.second == 8);
+    expect(t, rtx.rtx_time == 0 && rtx.payload_type == 96 && !rtx.has_rtx_time);
+    rtx.rtx_time = 5; /* which isn't said */
+    expect(t, h26x_rtx_format_write(&rtx, to, 6, &len) == H26X_OK && len == 6 && memcmp(to, "apt=96", 6) == 0);
+    rtx = (h26x_rtx_format){.payload_type = 127, .has_rtx_time = true};
+    memset(to, 0xee, sizeof to);
+    expect(t, h26x_rtx_format_write(&rtx, to, 17, &len) == H26X_NO_ROOM && len == 18 && to[0] == 0xee);
+    expect(t, h26x_rtx_format_write(&rtx, to, 18, &len) == H26X_OK && memcmp(to, "apt=127;rtx-time=0", 18) == 0);
+    rtx.payload_type = 128;
+    len = 99;
+    expect(t, h26x_rtx_format_write(&rtx, to, 64, &len) == H26X_SDP_PAYLOAD_TYPE && len == 99);
+}
+
 /* Handles of other ends, each way. */
 static void check_ends(struct tally *t)
 {
@@ -637,6 +754,8 @@ static void check_ends(struct tally *t)
     other.at = p.at;
     expect(t, h26x_sdp_codec(&other) == 0);
     expect(t, h26x_sdp_write(&other, to, 8, &len) == H26X_WRONG_END);
+    expect(t, h26x_sdp_set(&other, TEXT("max-fs"), TEXT("9")) == H26X_WRONG_END);
+    expect(t, h26x_sdp_unset(&other, TEXT("max-fs")) == H26X_WRONG_END);
     expect(t, h26x_sdp_value(&other, TEXT("max-fs"), true, to, 8, &len) == H26X_WRONG_END);
     expect(t, h26x_sdp_number(&other, TEXT("max-fs"), true, &value) == H26X_WRONG_END && value == 99);
     expect(t, h26x_sdp_units(&other, TEXT("sprop-parameter-sets"), &len, &why) == H26X_WRONG_END);
@@ -647,6 +766,9 @@ static void check_ends(struct tally *t)
     expect(t, h26x_sdp_capability_points(&other, true, &point, 1, &len, &why) == H26X_WRONG_END && point.max_br == 99);
     expect(t, why.first == 0 && why.second == 0);
     expect(t, len == 99 && value_len == 99 && to[0] == 0xee && value_to[0] == 0xee);
+    expect(t, h26x_sdp_broken_rule(&other, 0, NULL) == H26X_WRONG_END);
+    expect(t, h26x_sdp_name(&other, 0, to, 8, &len) == H26X_WRONG_END && len == 99 && to[0] == 0xee);
+    expect(t, h26x_sdp_answer_with(&other, &it, 0, &made) == H26X_WRONG_END && made.at == NULL);
     expect(t, h26x_sdp_answer(&other, &it, &made) == H26X_WRONG_END && made.at == NULL);
     expect(t, h26x_sdp_answer(&it, &other, &made) == H26X_WRONG_END && made.at == NULL);
     wrong.at = it.at;
@@ -667,9 +789,15 @@ static void check_nulls(struct tally *t)
         h26x_sdp it = {NULL}, made = {NULL};
         expect(t, h26x_sdp_read(H26X_H264, NULL, many, &it, NULL) == H26X_OK);
         expect(t, h26x_sdp_write(&it, NULL, many, NULL) == H26X_OK);
+        expect(t, h26x_sdp_set(&it, NULL, many, NULL, many) == H26X_SDP_UNKNOWN_NAME);
+        expect(t, h26x_sdp_set(&it, TEXT("sprop-parameter-sets"), NULL, many) == H26X_OK);
+        expect(t, h26x_sdp_unset(&it, NULL, many) == H26X_SDP_UNKNOWN_NAME);
+        expect(t, h26x_sdp_unset(&it, TEXT("sprop-parameter-sets")) == H26X_OK);
         expect(t, h26x_sdp_value(&it, NULL, many, true, NULL, many, NULL) == H26X_SDP_UNKNOWN_NAME);
         expect(t, h26x_sdp_value(&it, TEXT("sar-understood"), true, NULL, many, NULL) == H26X_NO_ROOM);
         expect(t, h26x_sdp_number(&it, TEXT("sar-understood"), true, NULL) == H26X_OK);
+        expect(t, h26x_sdp_broken_rule(&it, 0, NULL) == H26X_OK);
+        expect(t, h26x_sdp_name(&it, 0, NULL, many, NULL) == H26X_NO_ROOM);
         expect(t, h26x_sdp_units(&it, NULL, many, NULL, NULL) == H26X_SDP_UNKNOWN_NAME);
         expect(t, h26x_sdp_unit(&it, NULL, many, 0, NULL, many, NULL, NULL) == H26X_SDP_UNKNOWN_NAME);
         expect(t, h26x_sdp_other(&it, 0, NULL, many, NULL, NULL, many, NULL) == H26X_SDP_ABSENT);
@@ -679,6 +807,10 @@ static void check_nulls(struct tally *t)
         h26x_sdp_close(&made);
         expect(t, h26x_sdp_of_payload(H26X_H264, NULL, many, &made) == H26X_SDP_NO_SET && made.at == NULL);
         expect(t, h26x_rtpmap_read(NULL, many, NULL, NULL) == H26X_SDP_PAYLOAD_TYPE);
+        expect(t, h26x_repairmap_read(NULL, many, NULL, NULL) == H26X_SDP_PAYLOAD_TYPE);
+        expect(t, h26x_repairmap_write(97, H26X_REPAIR_RED, NULL, many, NULL) == H26X_NO_ROOM);
+        expect(t, h26x_rtx_format_read(NULL, many, NULL, NULL) == H26X_SDP_NO_APT);
+        expect(t, h26x_rtx_format_write(&(h26x_rtx_format){.payload_type = 96}, NULL, many, NULL) == H26X_NO_ROOM);
         for (int n = 0; n < 2; n++) {
             h26x_sdp_close(&it);
             expect(t, it.at == NULL);
@@ -695,6 +827,7 @@ void check_sdp(struct tally *t)
     check_values(t);
     check_names(t);
     check_units(t);
+    check_set(t);
     check_others(t);
     check_answers(t);
     check_streams(t);
@@ -703,6 +836,7 @@ void check_sdp(struct tally *t)
     check_constraints(t);
     check_capability_points(t);
     check_rtpmaps(t);
+    check_repair(t);
     check_ends(t);
     check_nulls(t);
 }

@@ -25,7 +25,7 @@
 // that answers errors answers [ErrClosed] behind Close, and so it does of a value that no call made.
 // Goroutines may share an object: by a lock a call that changes it runs alone, and those that only look at
 // it (Clone, Equal, PacketsSize, Shown, RunLen, Deadline, Missing, Counts, Sources, Statistics, and all of
-// FormatParameters but Close) run at once. It must not be copied.
+// FormatParameters but Close, Set and Unset) run at once. It must not be copied.
 //
 // # Bytes
 //

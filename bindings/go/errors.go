@@ -126,6 +126,8 @@ const (
 	ErrSDPShortConstraints Code = C.H26X_SDP_SHORT_CONSTRAINTS
 	// ErrSDPLongConstraints: H.266: bytes stand behind them.
 	ErrSDPLongConstraints Code = C.H26X_SDP_LONG_CONSTRAINTS
+	// ErrSDPNotAValue: the text has a ; outside braces, or leaves one open.
+	ErrSDPNotAValue Code = C.H26X_SDP_NOT_A_VALUE
 )
 
 // Why bytes are no RTP packet (RFC 3550, 5.1), no retransmission (RFC 4588, 4) and no redundant payload (RFC 2198, 3), and
@@ -157,6 +159,33 @@ const (
 	ErrREDHeadersPastTheEnd Code = C.H26X_RED_HEADERS_PAST_THE_END
 	// ErrREDBlocksPastTheEnd: blocks are longer than what stands behind the headers.
 	ErrREDBlocksPastTheEnd Code = C.H26X_RED_BLOCKS_PAST_THE_END
+)
+
+// ErrSDPNoAPT: a format of retransmission says no payload type that it belongs to.
+const ErrSDPNoAPT Code = C.H26X_SDP_NO_APT
+
+// Which rule a format of one's own breaks (RFC 6184, 8.1; RFC 7798, 7.1; RFC 9328, 7.2).
+const (
+	// ErrSDPRuleProfile: the standard has no such profile.
+	ErrSDPRuleProfile Code = C.H26X_SDP_RULE_PROFILE
+	// ErrSDPRuleLevel: the standard has no such level.
+	ErrSDPRuleLevel Code = C.H26X_SDP_RULE_LEVEL
+	// ErrSDPRuleHighestLevel: the highest level that is received isn't above the level, or is none.
+	ErrSDPRuleHighestLevel Code = C.H26X_SDP_RULE_HIGHEST_LEVEL
+	// ErrSDPRuleBelowLevel: a parameter is below what the highest level asks for.
+	ErrSDPRuleBelowLevel Code = C.H26X_SDP_RULE_BELOW_LEVEL
+	// ErrSDPRuleReordering: what is said of packets out of order stands where there are none, or is absent.
+	ErrSDPRuleReordering Code = C.H26X_SDP_RULE_REORDERING
+	// ErrSDPRuleOutOfOrder: units may be sent in another order than decoded, and AnyOrder isn't among the options.
+	ErrSDPRuleOutOfOrder Code = C.H26X_SDP_RULE_OUT_OF_ORDER
+	// ErrSDPRuleAboveLevel: a parameter is above 16 times what the highest level asks for.
+	ErrSDPRuleAboveLevel Code = C.H26X_SDP_RULE_ABOVE_LEVEL
+	// ErrSDPRuleAspectRatios: sar-supported is above sar-understood, and not 255.
+	ErrSDPRuleAspectRatios Code = C.H26X_SDP_RULE_ASPECT_RATIOS
+	// ErrSDPRuleInBandSets: parameter sets of levels are used where all go in band.
+	ErrSDPRuleInBandSets Code = C.H26X_SDP_RULE_IN_BAND_SETS
+	// ErrSDPRuleHashTypes: include-dph is no list of numbers up to 255.
+	ErrSDPRuleHashTypes Code = C.H26X_SDP_RULE_HASH_TYPES
 )
 
 // Error is the code in the library's words.

@@ -12,7 +12,7 @@ import (
 )
 
 // FormatParameters are what an a=fmtp line says behind the payload type (RFC 6184, 8.1; RFC 7798, 7.1; RFC 9328, 7.2).
-// They don't change.
+// They change by Set and Unset alone.
 //
 // Names are those of the codec's RFC, as "profile-level-id", without regard to case. A call that is given one answers
 // ErrSDPUnknownName where the RFC has no such parameter, ErrSDPAbsent where it isn't given, and ErrClosed.
@@ -108,6 +108,75 @@ func (f *FormatParameters) AnswerWebRTC(ours *FormatParameters, anyOrder bool) (
 	})
 }
 
+// AnswerOptions are how an end answers, by its bits: none is as Answer.
+type AnswerOptions uint32
+
+// The options.
+const (
+	// AnyOrder: it takes units in any order, as AnswerAnyOrder has it.
+	AnyOrder AnswerOptions = C.H26X_SDP_ANY_ORDER
+	// AsWebRTC: as WebRTC's peers do it, as AnswerWebRTC has it.
+	AsWebRTC AnswerOptions = C.H26X_SDP_WEBRTC
+	// SendOnly: it sends alone (a=sendonly), so that what isn't usable there, by the tables of the RFCs, is ignored and
+	// not answered. With RecvOnly it is no option.
+	SendOnly AnswerOptions = C.H26X_SDP_SEND_ONLY
+	// RecvOnly: it receives alone (a=recvonly), likewise.
+	RecvOnly AnswerOptions = C.H26X_SDP_RECV_ONLY
+	// Multicast: media go by multicast, so that the offered level is kept, or there is no answer.
+	Multicast AnswerOptions = C.H26X_SDP_MULTICAST
+)
+
+// AnswerWith is the Answer by options; ErrOutOfRange of a bit that none has.
+func (f *FormatParameters) AnswerWith(ours *FormatParameters, options AnswerOptions) (*FormatParameters, error) {
+	return f.answer(ours, func(offered, ours, made *C.h26x_sdp) C.uint32_t {
+		return C.h26x_sdp_answer_with(offered, ours, C.uint32_t(options), made)
+	})
+}
+
+// A RuleError is a rule that a format of one's own breaks, one from ErrSDPRuleProfile on.
+type RuleError struct {
+	Code Code
+	// Parameter is the one that it is of; empty where it is of none.
+	Parameter string
+}
+
+// Error is the rule in the library's words, with the parameter.
+func (e *RuleError) Error() string {
+	if e.Parameter == "" {
+		return e.Code.Error()
+	}
+	return e.Code.Error() + " (" + e.Parameter + ")"
+}
+
+// Unwrap is the code.
+func (e *RuleError) Unwrap() error { return e.Code }
+
+// BrokenRule is the first rule that they break as a format of one's own, which then gives no answer by these options: a
+// *RuleError, or nil where they break none. Its other errors are ErrOutOfRange of a bit that no option has, and ErrClosed.
+func (f *FormatParameters) BrokenRule(options AnswerOptions) error {
+	f.mu.RLock()
+	defer f.mu.RUnlock()
+	if f.call == nil {
+		return ErrClosed
+	}
+	why := new(C.h26x_refusal)
+	code := C.h26x_sdp_broken_rule(&f.call.handle, C.uint32_t(options), why)
+	if code < C.H26X_SDP_RULE_PROFILE {
+		return refusedBy(code)
+	}
+	rule := &RuleError{Code: Code(code)}
+	if code == C.H26X_SDP_RULE_BELOW_LEVEL || code == C.H26X_SDP_RULE_ABOVE_LEVEL {
+		name, err := written(func(to *C.uint8_t, room C.size_t, size *C.size_t) C.uint32_t {
+			return C.h26x_sdp_name(&f.call.handle, why.first, to, room, size)
+		})
+		if err != nil {
+			return err
+		}
+		rule.Parameter = name
+	}
+	return rule
+}
+
 func (f *FormatParameters) answer(ours *FormatParameters,
 	by func(offered, ours, made *C.h26x_sdp) C.uint32_t) (*FormatParameters, error) {
 	defer lockBoth(&f.mu, &ours.mu)()
@@ -151,6 +220,30 @@ func written(write func(to *C.uint8_t, room C.size_t, size *C.size_t) C.uint32_t
 		code = write(at(room), C.size_t(len(room)), size)
 	}
 	return string(room), refusedBy(code)
+}
+
+// Set gives a parameter a value, in the place of the one that it has; white space at its ends is left out. Nothing changes
+// where it has an error: ErrSDPNotAValue of what would be read as more than a value, one that ReadFormatParameters has of a
+// value that is none of the parameter, ErrSDPUnknownName, ErrOutOfMemory and ErrClosed.
+func (f *FormatParameters) Set(name, value string) error {
+	f.mu.Lock()
+	defer f.mu.Unlock()
+	if f.call == nil {
+		return ErrClosed
+	}
+	named, given := []byte(name), []byte(value)
+	return refusedBy(C.h26x_sdp_set(&f.call.handle, at(named), C.size_t(len(named)), at(given), C.size_t(len(given))))
+}
+
+// Unset takes a parameter's value away, if it has one. Its errors are ErrSDPUnknownName, ErrOutOfMemory and ErrClosed.
+func (f *FormatParameters) Unset(name string) error {
+	f.mu.Lock()
+	defer f.mu.Unlock()
+	if f.call == nil {
+		return ErrClosed
+	}
+	named := []byte(name)
+	return refusedBy(C.h26x_sdp_unset(&f.call.handle, at(named), C.size_t(len(named))))
 }
 
 // Value is the value of a parameter, as it came.

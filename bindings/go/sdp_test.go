@@ -112,12 +112,12 @@ func TestFaultsOfFormatParameters(t *testing.T) {
 		}
 	}
 	words := map[string]bool{}
-	for code := h26x.ErrSDPOpenBrace; code <= h26x.ErrSDPLongConstraints; code++ {
+	for code := h26x.ErrSDPOpenBrace; code <= h26x.ErrSDPNotAValue; code++ {
 		if code != h26x.ErrSDPNoProfile+1 { // which is none
 			words[code.Error()] = true
 		}
 	}
-	if len(words) != 28 || words[h26x.Code(99).Error()] {
+	if len(words) != 29 || words[h26x.Code(99).Error()] {
 		t.Errorf("%d words", len(words))
 	}
 }

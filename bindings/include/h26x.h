@@ -147,6 +147,7 @@ enum h26x_code {
     H26X_SDP_CONSTRAINTS_NOT_BASE64 = 46, /**< H.266 */
     H26X_SDP_SHORT_CONSTRAINTS = 47,  /**< they end before they say all */
     H26X_SDP_LONG_CONSTRAINTS = 48,   /**< bytes stand behind them */
+    H26X_SDP_NOT_A_VALUE = 49,        /**< the text has a `;` outside braces, or leaves one open */
     /* Why bytes are no RTP packet: the first fault from the left. */
     H26X_RTP_TOO_SHORT = 50,          /**< fewer than the 12 bytes that every header has */
     H26X_RTP_OTHER_VERSION = 51,      /**< its version isn't 2 */
@@ -163,7 +164,20 @@ enum h26x_code {
     H26X_RTX_NO_ORIGINAL = 60,        /**< a retransmission of under two bytes of payload: padding, or a probe */
     /* Why bytes are no redundant payload: the first fault from the left. */
     H26X_RED_HEADERS_PAST_THE_END = 61, /**< no header of a block has F clear */
-    H26X_RED_BLOCKS_PAST_THE_END = 62 /**< blocks are longer than what stands behind the headers */
+    H26X_RED_BLOCKS_PAST_THE_END = 62, /**< blocks are longer than what stands behind the headers */
+    H26X_SDP_NO_APT = 63,             /**< a format of retransmission says no payload type that it belongs to */
+    /* Which rule a format of one's own breaks (RFC 6184, 8.1; RFC 7798, 7.1; RFC 9328, 7.2), 69 that of payloads
+     * here. why->first of 67 and 70: the place of the parameter, whose name h26x_sdp_name has. */
+    H26X_SDP_RULE_PROFILE = 64,       /**< the standard has no such profile */
+    H26X_SDP_RULE_LEVEL = 65,         /**< the standard has no such level */
+    H26X_SDP_RULE_HIGHEST_LEVEL = 66, /**< the highest level that is received isn't above the level, or is none */
+    H26X_SDP_RULE_BELOW_LEVEL = 67,   /**< a parameter is below what the highest level asks for */
+    H26X_SDP_RULE_REORDERING = 68,    /**< what is said of packets out of order stands where there are none, or is absent */
+    H26X_SDP_RULE_OUT_OF_ORDER = 69,  /**< units may be sent in another order than decoded, and nobody says H26X_SDP_ANY_ORDER */
+    H26X_SDP_RULE_ABOVE_LEVEL = 70,   /**< a parameter is above 16 times what the highest level asks for */
+    H26X_SDP_RULE_ASPECT_RATIOS = 71, /**< sar-supported is above sar-understood, and not 255 */
+    H26X_SDP_RULE_IN_BAND_SETS = 72,  /**< parameter sets of levels are used where all go in band */
+    H26X_SDP_RULE_HASH_TYPES = 73     /**< include-dph is no list of numbers up to 255 */
 };
 
 /** A code in words, without a full stop; never NULL. */
@@ -1242,6 +1256,29 @@ H26X_API uint32_t h26x_sdp_answer_any_order(const h26x_sdp *offered, const h26x_
 H26X_API uint32_t h26x_sdp_answer_webrtc(const h26x_sdp *offered, const h26x_sdp *ours, bool any_order, h26x_sdp *made)
     H26X_MUST_USE;
 
+/** How an end answers, in the bits of a number; 0 is as h26x_sdp_answer. */
+enum h26x_sdp_option {
+    H26X_SDP_ANY_ORDER = 1, /**< it takes units in any order, as h26x_sdp_answer_any_order has it */
+    H26X_SDP_WEBRTC = 2,    /**< as WebRTC's peers do it, as h26x_sdp_answer_webrtc has it */
+    /* Its media flows one way (a=sendonly, a=recvonly; both at once are no options): parameters that aren't usable there
+     * are ignored, and not answered (RFC 6184, 8.2.2, table 6; RFC 7798, 7.2.2, table 1; RFC 9328, 7.3.2.3). */
+    H26X_SDP_SEND_ONLY = 4, /**< it sends alone: the offer is of who receives alone */
+    H26X_SDP_RECV_ONLY = 8, /**< it receives alone */
+    H26X_SDP_MULTICAST = 16 /**< media go by multicast: the offered level is kept, or there is no answer */
+};
+
+/** The answer by options. H26X_OUT_OF_RANGE of another bit. */
+H26X_API uint32_t h26x_sdp_answer_with(const h26x_sdp *offered, const h26x_sdp *ours, uint32_t options, h26x_sdp *made)
+    H26X_MUST_USE;
+
+/** The first rule that they break as a format of one's own, which then gives no answer: one of the codes from 64 on, or
+ * H26X_OK where they break none. `options` are those of the answer: H26X_OUT_OF_RANGE of another bit; H26X_WRONG_END. */
+H26X_API uint32_t h26x_sdp_broken_rule(const h26x_sdp *h, uint32_t options, h26x_refusal *why) H26X_MUST_USE;
+
+/** The name of parameter i of those of the codec's RFC, from 0, in the order in which they are written, to the front of
+ * `to`. H26X_SDP_ABSENT past the last; H26X_NO_ROOM tells *len and leaves `to`; H26X_WRONG_END. */
+H26X_API uint32_t h26x_sdp_name(const h26x_sdp *h, size_t i, uint8_t *to, size_t room, size_t *len) H26X_MUST_USE;
+
 /** Frees them. A handle of NULL is nothing to be freed. */
 H26X_API void h26x_sdp_free(h26x_sdp h);
 
@@ -1263,6 +1300,16 @@ H26X_API uint32_t h26x_sdp_codec(const h26x_sdp *h);
  * *len is its length; where that is over `room` the answer is H26X_NO_ROOM, and `to` is left. H26X_OUT_OF_MEMORY and
  * H26X_WRONG_END leave *len too. */
 H26X_API uint32_t h26x_sdp_write(const h26x_sdp *h, uint8_t *to, size_t room, size_t *len) H26X_MUST_USE;
+
+/** Gives the parameter with a name a value, in the place of the one that it has; white space at its ends is left out.
+ * H26X_SDP_UNKNOWN_NAME; H26X_SDP_NOT_A_VALUE, of what would be read as more than a value; one of the codes from 21 to 24;
+ * H26X_OUT_OF_MEMORY; H26X_WRONG_END. */
+H26X_API uint32_t h26x_sdp_set(h26x_sdp *h, const uint8_t *name, size_t name_len, const uint8_t *value,
+                               size_t value_len) H26X_MUST_USE;
+
+/** Takes away the value of the parameter with a name, if it has one. H26X_SDP_UNKNOWN_NAME; H26X_OUT_OF_MEMORY;
+ * H26X_WRONG_END. */
+H26X_API uint32_t h26x_sdp_unset(h26x_sdp *h, const uint8_t *name, size_t name_len) H26X_MUST_USE;
 
 /** The value of the parameter with a name, as it came, to the front of `to`. Where it is absent: with `or_default` what
  * the RFC takes for it, if it says what; else H26X_SDP_ABSENT. H26X_SDP_UNKNOWN_NAME; H26X_NO_ROOM tells *len and leaves
@@ -1347,6 +1394,9 @@ H26X_API uint32_t h26x_sdp_capability_points(const h26x_sdp *h, bool or_default,
  * h26x_packetize puts both into one packet. */
 H26X_API bool h26x_fits_single_units(const uint8_t *payload, size_t payload_len, size_t limit);
 
+/** The clock rate of each payload type here, in Hz (RFC 6184, 8.2.1; RFC 7798, 7.2.1; RFC 9328, 7.3.1). */
+#define H26X_CLOCK_RATE 90000
+
 /** Reads what stands behind "a=rtpmap:", as "96 H264/90000" (RFC 8866, 6.6): H26X_SDP_PAYLOAD_TYPE,
  * H26X_SDP_ENCODING_NAME or H26X_SDP_CLOCK_RATE by the first that is wrong. All but H26X_OK leave *payload_type and
  * *codec. */
@@ -1356,6 +1406,42 @@ H26X_API uint32_t h26x_rtpmap_read(const uint8_t *text, size_t text_len, uint8_t
 /** Writes it to the front of `to`. H26X_UNKNOWN_CODEC; H26X_SDP_PAYLOAD_TYPE where that is over 127; H26X_NO_ROOM tells
  * *len and leaves `to`; H26X_OUT_OF_MEMORY. */
 H26X_API uint32_t h26x_rtpmap_write(uint8_t payload_type, uint32_t codec, uint8_t *to, size_t room, size_t *len)
+    H26X_MUST_USE;
+
+/** What goes beside video in a session. */
+enum h26x_repair_format {
+    H26X_REPAIR_RTX = 1,       /**< `rtx`: packets that are sent again (RFC 4588, 8.3) */
+    H26X_REPAIR_RED = 2,       /**< `red`: payloads with others before them (RFC 2198, 5), which bear their payload types */
+    H26X_REPAIR_ULPFEC = 3,    /**< `ulpfec`: forward error correction (RFC 5109, 13.2) */
+    H26X_REPAIR_FLEXFEC = 4,   /**< `flexfec`: the same (RFC 8627, 5.1.2) */
+    H26X_REPAIR_FLEXFEC_03 = 5 /**< `flexfec-03`: the same by the third draft of RFC 8627, as browsers send it */
+};
+
+/** Reads what stands behind "a=rtpmap:" of what goes beside video, as "97 rtx/90000": the payload type, and one of
+ * h26x_repair_format. The same answers as of h26x_rtpmap_read; that of audio, as "63 red/48000/2", has another clock rate. */
+H26X_API uint32_t h26x_repairmap_read(const uint8_t *text, size_t text_len, uint8_t *payload_type, uint32_t *format)
+    H26X_MUST_USE;
+
+/** Writes it to the front of `to`. H26X_OUT_OF_RANGE of no h26x_repair_format; else as h26x_rtpmap_write. */
+H26X_API uint32_t h26x_repairmap_write(uint8_t payload_type, uint32_t format, uint8_t *to, size_t room, size_t *len)
+    H26X_MUST_USE;
+
+/** What an a=fmtp line says behind the payload type of H26X_REPAIR_RTX (RFC 4588, 8.3 and 8.6). */
+typedef struct {
+    uint64_t rtx_time;    /**< `rtx-time`: for how many milliseconds a packet can be sent again; 0 where it isn't said */
+    uint8_t payload_type; /**< `apt`: the payload type that packets were first sent with, to which it belongs */
+    bool has_rtx_time;    /**< whether that time is said */
+} h26x_rtx_format;
+
+/** Reads it, as "apt=96;rtx-time=3000". One of the codes from 20 to 22 and H26X_SDP_TWICE, as h26x_sdp_read, an apt above
+ * 127 by H26X_SDP_OUT_OF_RANGE; H26X_SDP_NO_APT; H26X_OUT_OF_MEMORY. All but H26X_OK leave *format. What RFC 4588 doesn't
+ * have is left out. */
+H26X_API uint32_t h26x_rtx_format_read(const uint8_t *text, size_t text_len, h26x_rtx_format *format, h26x_refusal *why)
+    H26X_MUST_USE;
+
+/** Writes it to the front of `to`. H26X_SDP_PAYLOAD_TYPE where that is over 127; H26X_NO_ROOM tells *len and leaves `to`;
+ * H26X_OUT_OF_MEMORY. */
+H26X_API uint32_t h26x_rtx_format_write(const h26x_rtx_format *format, uint8_t *to, size_t room, size_t *len)
     H26X_MUST_USE;
 
 #ifdef __cplusplus

@@ -76,8 +76,12 @@ PROVED(rtp_receiver_report);
 PROVED(rtp_receiver_count);
 PROVED(sdp_read);
 PROVED(sdp_of_payload);
+PROVED(sdp_broken_rule);
+PROVED(sdp_name);
 PROVED(sdp_free);
 PROVED(sdp_write);
+PROVED(sdp_set);
+PROVED(sdp_unset);
 PROVED(sdp_value);
 PROVED(sdp_number);
 PROVED(sdp_units);
@@ -89,6 +93,10 @@ PROVED(sdp_capability_points);
 PROVED(fits_single_units);
 PROVED(rtpmap_read);
 PROVED(rtpmap_write);
+PROVED(repairmap_read);
+PROVED(repairmap_write);
+PROVED(rtx_format_read);
+PROVED(rtx_format_write);
 
 /* Keeps what is seldom needed out of a call that is made for each packet, which then goes straight on
  * to the proved one. */
@@ -645,6 +653,18 @@ uint32_t h26x_sdp_of_payload(uint32_t codec, const uint8_t *payload, size_t payl
     return proved_sdp_of_payload(codec, BYTES(payload, payload_len), made);
 }
 
+uint32_t h26x_sdp_broken_rule(const h26x_sdp *h, uint32_t options, h26x_refusal *why)
+{
+    h26x_refusal unwanted;
+    return proved_sdp_broken_rule(h, options, WANTED(why, &unwanted));
+}
+
+uint32_t h26x_sdp_name(const h26x_sdp *h, size_t i, uint8_t *to, size_t room, size_t *len)
+{
+    size_t unwanted;
+    return proved_sdp_name(h, i, BYTES(to, room), WANTED(len, &unwanted));
+}
+
 void h26x_sdp_free(h26x_sdp h)
 {
     if (h.at != NULL)
@@ -655,6 +675,17 @@ uint32_t h26x_sdp_write(const h26x_sdp *h, uint8_t *to, size_t room, size_t *len
 {
     size_t unwanted;
     return proved_sdp_write(h, BYTES(to, room), WANTED(len, &unwanted));
+}
+
+uint32_t h26x_sdp_set(h26x_sdp *h, const uint8_t *name, size_t name_len, const uint8_t *value,
+                      size_t value_len)
+{
+    return proved_sdp_set(h, BYTES(name, name_len), BYTES(value, value_len));
+}
+
+uint32_t h26x_sdp_unset(h26x_sdp *h, const uint8_t *name, size_t name_len)
+{
+    return proved_sdp_unset(h, BYTES(name, name_len));
 }
 
 uint32_t h26x_sdp_value(const h26x_sdp *h, const uint8_t *name, size_t name_len, bool or_default,
@@ -737,4 +768,35 @@ uint32_t h26x_rtpmap_write(uint8_t payload_type, uint32_t codec, uint8_t *to, si
 {
     size_t unwanted;
     return proved_rtpmap_write(payload_type, codec, BYTES(to, room), WANTED(len, &unwanted));
+}
+
+uint32_t h26x_repairmap_read(const uint8_t *text, size_t text_len, uint8_t *payload_type,
+                             uint32_t *format)
+{
+    uint8_t unwanted_type;
+    uint32_t unwanted_format;
+    return proved_repairmap_read(BYTES(text, text_len), WANTED(payload_type, &unwanted_type),
+                                 WANTED(format, &unwanted_format));
+}
+
+uint32_t h26x_repairmap_write(uint8_t payload_type, uint32_t format, uint8_t *to, size_t room,
+                              size_t *len)
+{
+    size_t unwanted;
+    return proved_repairmap_write(payload_type, format, BYTES(to, room), WANTED(len, &unwanted));
+}
+
+uint32_t h26x_rtx_format_read(const uint8_t *text, size_t text_len, h26x_rtx_format *format,
+                              h26x_refusal *why)
+{
+    h26x_rtx_format unwanted_format;
+    h26x_refusal unwanted_why;
+    return proved_rtx_format_read(BYTES(text, text_len), WANTED(format, &unwanted_format),
+                                  WANTED(why, &unwanted_why));
+}
+
+uint32_t h26x_rtx_format_write(const h26x_rtx_format *format, uint8_t *to, size_t room, size_t *len)
+{
+    size_t unwanted;
+    return proved_rtx_format_write(format, BYTES(to, room), WANTED(len, &unwanted));
 }

@@ -112,6 +112,8 @@ const char *h26x_strerror(uint32_t code)
         return "the constraints are too short";
     case H26X_SDP_LONG_CONSTRAINTS:
         return "bytes stand behind the constraints";
+    case H26X_SDP_NOT_A_VALUE:
+        return "the text is more than a value";
     case H26X_RTP_TOO_SHORT:
         return "the datagram is shorter than an RTP header";
     case H26X_RTP_OTHER_VERSION:
@@ -138,6 +140,28 @@ const char *h26x_strerror(uint32_t code)
         return "headers of redundant blocks pass the end of the payload";
     case H26X_RED_BLOCKS_PAST_THE_END:
         return "redundant blocks pass the end of the payload";
+    case H26X_SDP_NO_APT:
+        return "the format says no payload type that it belongs to";
+    case H26X_SDP_RULE_PROFILE:
+        return "the standard has no such profile";
+    case H26X_SDP_RULE_LEVEL:
+        return "the standard has no such level";
+    case H26X_SDP_RULE_HIGHEST_LEVEL:
+        return "the highest level is none above the level";
+    case H26X_SDP_RULE_BELOW_LEVEL:
+        return "the parameter is below what the level asks for";
+    case H26X_SDP_RULE_REORDERING:
+        return "what is said of packets out of order does not fit";
+    case H26X_SDP_RULE_OUT_OF_ORDER:
+        return "units may be sent in another order than decoded";
+    case H26X_SDP_RULE_ABOVE_LEVEL:
+        return "the parameter is above 16 times what the level asks for";
+    case H26X_SDP_RULE_ASPECT_RATIOS:
+        return "more aspect ratios are supported than understood";
+    case H26X_SDP_RULE_IN_BAND_SETS:
+        return "parameter sets of levels are used where all go in band";
+    case H26X_SDP_RULE_HASH_TYPES:
+        return "types of hashes are no list of numbers up to 255";
     default:
         return "unknown code";
     }

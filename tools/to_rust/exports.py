@@ -29,13 +29,13 @@ UNSAFE = {"h26x_c"}
 NUMBERS = {"u8", "u16", "u32", "u64", "usize"}
 # What a call writes for C. `Place` is where a handle is written.
 OUTPUTS = NUMBERS | {"Refusal", "Shown", "Place", "UnitTold", "Counts", "ConstraintNumbers", "RtpPlaces", "Report",
-                     "Sources", "DatagramTold"}
+                     "Sources", "DatagramTold", "RtxNumbers"}
 # What C gives rows of to be written: numbers, and structs of nothing else.
 ENTRIES = {"u8", "u16", "usize", "PointNumbers", "PushTold", "ReceivedTold"}
 # What C gives rows of to be looked at.
 ROWS = {"u8", "u16", "RtpPayload"}
 # What a call only looks at: a handle, and what a caller sets.
-LOOKED_AT = {"ConstHandle", "Config", "NackTimes", "RtpFields", "Report", "PayloadTypes", "Sources"}
+LOOKED_AT = {"ConstHandle", "Config", "NackTimes", "RtpFields", "Report", "PayloadTypes", "Sources", "RtxNumbers"}
 # What a call reads and changes.
 LENT = {"Handle", "Statistics"}
 # Of these the outputs that are only written, with their names.
@@ -213,7 +213,8 @@ class Exports:
         below = {"Refusal": "h26x_codes::code", "UnitTold": "h26x_handles::access_units",
                  "RtpPayload": "h26x_handles::payloads", "PushTold": "h26x_handles::push_all",
                  "ReceivedTold": "h26x_handles::receive_all",
-                 "ConstraintNumbers": "h26x_sdp_handles::sdp_values", "PointNumbers": "h26x_sdp_handles::sdp_values"}
+                 "ConstraintNumbers": "h26x_sdp_handles::sdp_values", "PointNumbers": "h26x_sdp_handles::sdp_values",
+                 "RtxNumbers": "h26x_sdp_handles::repair"}
         uses += [f"pub use crate::proved::{file}::{kind};" for kind, file in below.items() if kind in used]
         return "\n".join([HEAD, *uses, "", *calls])
 

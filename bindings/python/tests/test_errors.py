@@ -59,6 +59,7 @@ CODES = {
     46: h26x.SdpConstraintsNotBase64,
     47: h26x.SdpShortConstraints,
     48: h26x.SdpLongConstraints,
+    49: h26x.SdpNotAValue,
     50: h26x.RtpTooShort,
     51: h26x.RtpOtherVersion,
     52: h26x.RtpCsrcsPastTheEnd,
@@ -72,6 +73,17 @@ CODES = {
     60: h26x.RtxNoOriginal,
     61: h26x.RedHeadersPastTheEnd,
     62: h26x.RedBlocksPastTheEnd,
+    63: h26x.SdpNoApt,
+    64: h26x.SdpRuleProfile,
+    65: h26x.SdpRuleLevel,
+    66: h26x.SdpRuleHighestLevel,
+    67: h26x.SdpRuleBelowLevel,
+    68: h26x.SdpRuleReordering,
+    69: h26x.SdpRuleOutOfOrder,
+    70: h26x.SdpRuleAboveLevel,
+    71: h26x.SdpRuleAspectRatios,
+    72: h26x.SdpRuleInBandSets,
+    73: h26x.SdpRuleHashTypes,
 }
 
 
@@ -117,6 +129,7 @@ def test_each_has_words_of_its_own() -> None:
         (h26x.RtpError, range(50, 56)),
         (h26x.RtpWriteError, range(56, 60)),
         (h26x.RedError, range(61, 63)),
+        (h26x.BrokenRule, range(64, 74)),
     ],
 )
 def test_errors_of_a_kind(kind: Type[h26x.Error], codes: Sequence[int]) -> None:

@@ -180,6 +180,8 @@ def closed_calls() -> List[Callable[[], Any]]:
         access_units.counts,
         lambda: str(format),
         lambda: hash(format),
+        lambda: format.with_value("tx-mode", "SRST"),
+        lambda: format.without_value("tx-mode"),
         lambda: format.value("tx-mode"),
         lambda: format.number("level-id"),
         lambda: format.units("sprop-vps"),

@@ -1,17 +1,21 @@
 -- What the calls on SDP answer.
 use Rattle.std.specs.Prelude.{◌≡◌, ◌⊎◌, ℕ, Bool, true, false, nat_le, nat_lt, ◌&&◌, if◌then◌else◌, List, length, Option, Some, None, Result, Ok, Err}
-use Rattle.std.specs.Option.{ok_or}
+use Rattle.std.specs.Option.{ok_or, option_map}
 use Rattle.std.specs.Result.{result_map_both}
 use Rattle.std.specs.List.{slice_get}
 use Rattle.h26x_fmtp.specs.Pairs.{Pair}
 use Rattle.h26x_fmtp.specs.RtpMaps.{rtp_map_text}
+use Rattle.h26x_fmtp.specs.RepairMaps.{repair_map_text}
+use Rattle.h26x_fmtp.specs.declared.repair_map.RepairMap.{RepairMap}
 use Rattle.h26x_fmtp.specs.declared.rtp_map.RtpMap.{RtpMap}
 use Rattle.h26x_fmtp.specs.declared.rtp_map.RtpMapError.{RtpMapError}
-use Rattle.h26x_codes.specs.Codes.{codec_with_number, ok, out_of_memory, unknown_codec, wrong_end, no_room}
+use Rattle.h26x_codes.specs.Codes.{codec_with_number, ok, out_of_memory, unknown_codec, wrong_end, no_room, out_of_range}
 use Rattle.h26x_codes.specs.Copies.{with_front, with_first}
-use Rattle.h26x_sdp_handles.specs.SdpCodes.{absent, no_payload_type, refused_with, point_refused_with, rtp_map_code, codec_number, encoding_codec, codec_encoding}
+use Rattle.h26x_codes.specs.declared.code.Refusal.{Refusal}
+use Rattle.h26x_sdp_handles.specs.SdpCodes.{absent, no_payload_type, refused_with, point_refused_with, rtp_map_code, format_fault_refused, codec_number, encoding_codec, codec_encoding}
 use Rattle.h26x_answers.specs.declared.answer.AnswerConfig.{AnswerConfig}
-use Rattle.h26x_sdp_handles.specs.Sdp.{sdp_codec, sdp_answer, sdp_units, sdp_others}
+use Rattle.h26x_sdp_handles.specs.Sdp.{sdp_codec, sdp_answer, sdp_own_fault, sdp_units, sdp_others}
+use Rattle.h26x_sdp_handles.specs.Repair.{repair_number, repair_map_or_code}
 use Rattle.h26x_sdp_handles.specs.SdpValues.{sdp_points, constraints_bytes, constraint_numbers}
 use Rattle.h26x_sdp_handles.specs.declared.sdp_code.PointRefused.{PointRefused}
 use Rattle.h26x_sdp_handles.specs.declared.sdp_code.Refused.{Refused}
@@ -70,6 +74,18 @@ IsMade (Err it) code made = (code ≡ it) ⊎ (code ≡ out_of_memory)
 abbrev pub endpoint_answer : AnswerConfig → Endpoint → Endpoint → Result SdpEndpoint ℕ
 endpoint_answer config (e.Sdp offered) (e.Sdp ours) = sdp_answer config offered ours
 endpoint_answer config offered ours = Err wrong_end
+
+-- the rule that a format of one's own breaks, or another reason why there is nothing to say of it
+abbrev pub endpoint_broken_rule : Option AnswerConfig → Endpoint → Option Refused
+endpoint_broken_rule None it = Some (refused_with out_of_range)
+endpoint_broken_rule (Some config) (e.Sdp it) =
+    option_map format_fault_refused (sdp_own_fault config it)
+endpoint_broken_rule (Some config) it = Some (refused_with wrong_end)
+
+-- its code and its place; where there is none what stood there stays
+abbrev pub rule_answer : Option Refused → Refusal → ℕ × Refusal
+rule_answer None before = (ok, before)
+rule_answer (Some it) before = (it.code, record { first = it.place; second = 0 })
 
 -- the units of the parameter with a name, or why there are none
 abbrev pub endpoint_sdp_units : Endpoint → List ℕ → Result (List (List ℕ)) Refused
@@ -134,3 +150,13 @@ rtp_map_or_code payload_type codec = elim (codec_with_number codec) [
 abbrev pub rtp_map_text_or_code : ℕ → ℕ → Result (List ℕ) ℕ
 rtp_map_text_or_code payload_type codec =
     result_map_both rtp_map_text (λ code. code) (rtp_map_or_code payload_type codec)
+
+-- a payload type and what it is of as they are read; where they aren't, both stay
+abbrev pub repair_map_answer : Result RepairMap RtpMapError → ℕ → ℕ → ℕ × (ℕ × ℕ)
+repair_map_answer (Ok map) payload_type format =
+    (ok, (map.payload_type, repair_number map.format))
+repair_map_answer (Err error) payload_type format = (rtp_map_code error, (payload_type, format))
+
+abbrev pub repair_map_text_or_code : ℕ → ℕ → Result (List ℕ) ℕ
+repair_map_text_or_code payload_type format =
+    result_map_both repair_map_text (λ code. code) (repair_map_or_code payload_type format)

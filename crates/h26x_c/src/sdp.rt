@@ -7,30 +7,39 @@ ghost use Rattle.h26x_fmtp.specs.Pairs.{Pair};
 ghost use Rattle.h26x_sdp_handles.specs.declared.sdp_code.PointRefused.{PointRefused};
 ghost use Rattle.h26x_sdp_handles.specs.declared.sdp_code.Refused.{Refused};
 ghost use Rattle.h26x_answers.specs.declared.answer.AnswerRules.TheVariants.{Rfc, Webrtc};
-ghost use Rattle.h26x_codes.specs.Codes.{codec_with_number, ok, out_of_memory, unknown_codec, wrong_end};
+ghost use Rattle.h26x_answers.specs.declared.direction.Direction.TheVariants.{SendRecv};
+ghost use Rattle.h26x_codes.specs.Codes.{codec_with_number, ok, out_of_memory, out_of_range, unknown_codec, wrong_end};
 ghost use Rattle.h26x_codes.specs.Copies.{with_front};
-ghost use Rattle.h26x_sdp_handles.specs.Sdp.{sdp_read, sdp_of_units, OfPayloadUnits, sdp_text, sdp_value, sdp_number, sdp_max_don_diff};
+ghost use Rattle.std.specs.Option.{ok_or};
+ghost use Rattle.h26x_sdp_handles.specs.SdpCodes.{absent};
+ghost use Rattle.h26x_sdp_handles.specs.AnswerOptions.{config_with_options};
+ghost use Rattle.h26x_sdp_handles.specs.Sdp.{sdp_name, sdp_read, sdp_of_units, OfPayloadUnits, sdp_text, sdp_value, sdp_number, sdp_max_don_diff};
+ghost use Rattle.h26x_sdp_handles.specs.ChangedParameters.{sdp_with_value, sdp_without_value};
 ghost use Rattle.h26x_sdp_handles.specs.SdpValues.{sdp_constraints};
 ghost use Rattle.h26x_c.specs.Endpoints.{GivesOrOutOfMemory};
-ghost use Rattle.h26x_c.specs.Sdp.{IsMade, without_place, IsRefused, is_sdp, endpoint_answer, endpoint_sdp_codec, copy_answer, at_sdp, number_answer, units_count, endpoint_sdp_units, nth_unit, pair_code, endpoint_other, constraints_answer, points_answer, endpoint_sdp_points};
+ghost use Rattle.h26x_c.specs.Sdp.{IsMade, without_place, IsRefused, is_sdp, endpoint_answer, endpoint_broken_rule, rule_answer, endpoint_sdp_codec, copy_answer, at_sdp, number_answer, units_count, endpoint_sdp_units, nth_unit, pair_code, endpoint_other, constraints_answer, points_answer, endpoint_sdp_points};
 
 use crate::const_handle::ConstHandle;
 use crate::copied::copy_out;
 use crate::handle::Handle;
 use crate::place::{Place, put};
-use h26x_answers::{AnswerConfig, AnswerRules};
-use h26x_codes::code::{NO_ROOM, OK, OUT_OF_MEMORY, Refusal, UNKNOWN_CODEC, WRONG_END, codec_of};
+use h26x_answers::{AnswerConfig, AnswerRules, Direction};
+use h26x_codes::code::{
+    NO_ROOM, OK, OUT_OF_MEMORY, OUT_OF_RANGE, Refusal, UNKNOWN_CODEC, WRONG_END, codec_of,
+};
 use h26x_codes::copy::{copy_first, copy_where_room};
 use h26x_endpoint::endpoint::Endpoint;
+use h26x_sdp_handles::answer_options::config_of;
 use h26x_sdp_handles::sdp::SdpEndpoint;
 use h26x_sdp_handles::sdp_code::{
-    ABSENT, PointRefused, Refused, number_of_codec, point_refused_with, refused_with,
+    ABSENT, PointRefused, Refused, number_of_codec, of_format_fault, point_refused_with,
+    refused_with,
 };
 use h26x_sdp_handles::sdp_values::{ConstraintNumbers, PointNumbers};
 use std::alloc::Global;
 
 /// Tells the place of a refusal; its code.
-fn tell(refused: Refused, why: &mut Refusal) -> u32
+pub(crate) fn tell(refused: Refused, why: &mut Refusal) -> u32
     ensures code { result ≡ refused.code }
     ensures place { why.new ≡ record { first = refused.place; second = 0 } }
 {
@@ -135,13 +144,19 @@ pub extern "C" fn h26x_sdp_answer(
 ) -> u32
     ensures wrong { (is_sdp offered.now.value && is_sdp ours.now.value) ≡ false →
         result ≡ wrong_end }
-    ensures answer { IsMade (endpoint_answer (record { any_order = false; rules = Rfc })
-        offered.now.value ours.now.value) result made.new.value }
+    ensures answer { IsMade (endpoint_answer (record {
+      any_order = false;
+      rules = Rfc;
+      direction = SendRecv;
+      multicast = false;
+    }) offered.now.value ours.now.value) result made.new.value }
     ensures kept { result ≢ ok → made.new ≡ made.old }
 {
     let config = AnswerConfig {
         any_order: false,
         rules: AnswerRules::Rfc,
+        direction: Direction::SendRecv,
+        multicast: false,
     };
     answered(alloc, config, offered, ours, made)
 }
@@ -156,13 +171,19 @@ pub extern "C" fn h26x_sdp_answer_any_order(
 ) -> u32
     ensures wrong { (is_sdp offered.now.value && is_sdp ours.now.value) ≡ false →
         result ≡ wrong_end }
-    ensures answer { IsMade (endpoint_answer (record { any_order = true; rules = Rfc })
-        offered.now.value ours.now.value) result made.new.value }
+    ensures answer { IsMade (endpoint_answer (record {
+      any_order = true;
+      rules = Rfc;
+      direction = SendRecv;
+      multicast = false;
+    }) offered.now.value ours.now.value) result made.new.value }
     ensures kept { result ≢ ok → made.new ≡ made.old }
 {
     let config = AnswerConfig {
         any_order: true,
         rules: AnswerRules::Rfc,
+        direction: Direction::SendRecv,
+        multicast: false,
     };
     answered(alloc, config, offered, ours, made)
 }
@@ -178,15 +199,77 @@ pub extern "C" fn h26x_sdp_answer_webrtc(
 ) -> u32
     ensures wrong { (is_sdp offered.now.value && is_sdp ours.now.value) ≡ false →
         result ≡ wrong_end }
-    ensures answer { IsMade (endpoint_answer (record { any_order = any_order; rules = Webrtc })
-        offered.now.value ours.now.value) result made.new.value }
+    ensures answer { IsMade (endpoint_answer (record {
+      any_order = any_order;
+      rules = Webrtc;
+      direction = SendRecv;
+      multicast = false;
+    }) offered.now.value ours.now.value) result made.new.value }
     ensures kept { result ≢ ok → made.new ≡ made.old }
 {
     let config = AnswerConfig {
         any_order,
         rules: AnswerRules::Webrtc,
+        direction: Direction::SendRecv,
+        multicast: false,
     };
     answered(alloc, config, offered, ours, made)
+}
+
+/// The same by options.
+#[unsafe(no_mangle)]
+pub extern "C" fn h26x_sdp_answer_with(
+    alloc: Global,
+    offered: &ConstHandle,
+    ours: &ConstHandle,
+    options: u32,
+    made: &mut Place,
+) -> u32
+    ensures unknown { config_with_options options ≡ None → result ≡ out_of_range }
+    ensures wrong { config_with_options options ≢ None →
+        (is_sdp offered.now.value && is_sdp ours.now.value) ≡ false → result ≡ wrong_end }
+    ensures answer { Where (config_with_options options)
+        (λ config. IsMade (endpoint_answer config offered.now.value ours.now.value) result
+        made.new.value) }
+    ensures kept { result ≢ ok → made.new ≡ made.old }
+{
+    match config_of(options) {
+        Some(config) => answered(alloc, config, offered, ours, made),
+        None => OUT_OF_RANGE,
+    }
+}
+
+/// The first rule that they break as a format of one's own, by which they give no answer.
+#[unsafe(no_mangle)]
+pub extern "C" fn h26x_sdp_broken_rule(h: &ConstHandle, options: u32, why: &mut Refusal) -> u32
+    ensures { (result, why.new) ≡ rule_answer
+        (endpoint_broken_rule (config_with_options options) h.now.value) why.old }
+{
+    let Some(config) = config_of(options) else {
+        return tell(refused_with(OUT_OF_RANGE), why);
+    };
+    let Endpoint::Sdp(it) = h.get() else {
+        return tell(refused_with(WRONG_END), why);
+    };
+    match it.own_fault(config) {
+        Some(fault) => tell(of_format_fault(fault), why),
+        None => OK,
+    }
+}
+
+/// The name of the parameter at a place of the RFC's table, where there is room.
+#[unsafe(no_mangle)]
+pub extern "C" fn h26x_sdp_name(h: &ConstHandle, i: usize, to: &mut [u8], len: &mut usize) -> u32
+    ensures { (result, (to.new, len.new)) ≡ copy_answer
+        (at_sdp h.now.value (λ it. ok_or (sdp_name it i) absent)) to.old len.old }
+{
+    let Endpoint::Sdp(it) = h.get() else {
+        return WRONG_END;
+    };
+    match it.name(i) {
+        Some(name) => copy_out(name, to, len),
+        None => ABSENT,
+    }
 }
 
 /// Frees format parameters.
@@ -225,6 +308,46 @@ pub extern "C" fn h26x_sdp_write(
     match it.write(alloc) {
         Ok(text) => copy_out(text.as_slice(), to, len),
         Err(_) => OUT_OF_MEMORY,
+    }
+}
+
+/// Gives the parameter with a name a value, in the place of the one that it has.
+#[unsafe(no_mangle)]
+pub extern "C" fn h26x_sdp_set(alloc: Global, h: &mut Handle, name: &[u8], value: &[u8]) -> u32
+    ensures wrong { is_sdp h.old.value ≡ false → result ≡ wrong_end }
+    ensures answer { IsMade (at_sdp h.old.value (λ it. sdp_with_value it name.now value.now)) result
+        (Some h.new.value) }
+    ensures kept { result ≢ ok → h.new.value ≡ h.old.value }
+{
+    let Endpoint::Sdp(it) = h.get_mut() else {
+        return WRONG_END;
+    };
+    match it.with_value(alloc, name, value) {
+        Ok(made) => {
+            *it = made;
+            OK
+        }
+        Err(code) => code,
+    }
+}
+
+/// Takes away the value of the parameter with a name, if it has one.
+#[unsafe(no_mangle)]
+pub extern "C" fn h26x_sdp_unset(alloc: Global, h: &mut Handle, name: &[u8]) -> u32
+    ensures wrong { is_sdp h.old.value ≡ false → result ≡ wrong_end }
+    ensures answer { IsMade (at_sdp h.old.value (λ it. sdp_without_value it name.now)) result
+        (Some h.new.value) }
+    ensures kept { result ≢ ok → h.new.value ≡ h.old.value }
+{
+    let Endpoint::Sdp(it) = h.get_mut() else {
+        return WRONG_END;
+    };
+    match it.without_value(alloc, name) {
+        Ok(made) => {
+            *it = made;
+            OK
+        }
+        Err(code) => code,
     }
 }
 

@@ -9,6 +9,10 @@ use Rattle.h26x_fmtp.specs.declared.error.UnitsError.{UnitsError}
 use Rattle.h26x_fmtp.specs.declared.error.UnitsError.TheVariants as u
 use Rattle.h26x_stream_parameters.specs.declared.error.StreamError.{StreamError}
 use Rattle.h26x_stream_parameters.specs.declared.error.StreamError.TheVariants as s
+use Rattle.h26x_sdp.specs.declared.error.RtxError.{RtxError}
+use Rattle.h26x_sdp.specs.declared.error.RtxError.TheVariants as x
+use Rattle.h26x_sdp.specs.declared.rtx.RtxFormat.{RtxFormat}
+use Rattle.h26x_sdp.specs.RtxViews.{SaysRtx}
 use Rattle.h26x_fmtp.specs.Reading.{FormatParameters, read_of}
 use Rattle.h26x_fmtp.specs.ParametersViews.{Fails}
 use Rattle.h26x_fmtp.specs.UnitsViews.{SaysUnitsIfGiven}
@@ -26,6 +30,12 @@ says_units_or (u.NotBase64 place) read is = inr is
 says_units_or (u.Empty place) read is = inr is
 says_units_or (u.OtherType place) read is = inr is
 says_units_or (u.StartCode place) read is = inr is
+
+pub says_rtx_or : (error : RtxError) (read : Result RtxFormat RtxError) → SaysRtx (Err error) read →
+    (error ≡ x.OutOfMemory) ⊎ (read ≡ Err error)
+says_rtx_or x.OutOfMemory read is = inl refl
+says_rtx_or x.NoPayloadType read is = inr is
+says_rtx_or (x.Parameters error) read is = inr is
 
 pub fails_stream_or : (error : StreamError) (read : Result FormatParameters StreamError) → FailsStream error read →
     (error ≡ s.OutOfMemory) ⊎ (read ≡ Err error)

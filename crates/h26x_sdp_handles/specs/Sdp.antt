@@ -1,6 +1,7 @@
 -- Format parameters of SDP by their codec and by names, as the calls on them answer.
 use Rattle.std.specs.Prelude.{◌≡◌, ◌⊎◌, ℕ, Bool, true, false, if◌then◌else◌, List, Option, Some, None, is_some, Result, Ok, Err, Vec, MatchResult}
-use Rattle.std.specs.Option.{ok_or}
+use Rattle.std.specs.List.{slice_get}
+use Rattle.std.specs.Option.{ok_or, option_map}
 use Rattle.std.specs.Result.{result_map_both}
 use Rattle.std.specs.Borrow.{Bor}
 use Rattle.std.specs.declared.alloc.Global.{Global}
@@ -22,7 +23,8 @@ use Rattle.h26x_fmtp.specs.Written.{written}
 use Rattle.h26x_fmtp.specs.Units.{sprop_units_at}
 use Rattle.h26x_fmtp.specs.UnitsViews.{units_view}
 use Rattle.h26x_answers.specs.declared.answer.AnswerConfig.{AnswerConfig}
-use Rattle.h26x_answers.specs.Answers.{Rules, allowed_answer}
+use Rattle.h26x_answers.specs.declared.fault.FormatFault.{FormatFault}
+use Rattle.h26x_answers.specs.Answers.{Rules, allowed_answer, in_cast, own_fault}
 use Rattle.h26x_answers.specs.AnswersH264 as h264_answers
 use Rattle.h26x_answers.specs.AnswersH265 as h265_answers
 use Rattle.h26x_answers.specs.AnswersH266 as h266_answers
@@ -96,13 +98,28 @@ answer_or_code rules config offered ours =
 abbrev pub sdp_answer : AnswerConfig → SdpEndpoint → SdpEndpoint → Result SdpEndpoint ℕ
 sdp_answer config (s.H264 offered) (s.H264 ours) =
     result_map_both s.H264 (λ code. code)
-    (answer_or_code (h264_answers.rules config.rules) config offered ours)
+    (answer_or_code (in_cast config (h264_answers.multicast_terms config.rules)
+    (h264_answers.rules config.rules)) config offered ours)
 sdp_answer config (s.H265 offered) (s.H265 ours) =
     result_map_both s.H265 (λ code. code)
-    (answer_or_code (h265_answers.rules config.rules) config offered ours)
+    (answer_or_code (in_cast config (h265_answers.multicast_terms config.rules)
+    (h265_answers.rules config.rules)) config offered ours)
 sdp_answer config (s.H266 offered) (s.H266 ours) =
-    result_map_both s.H266 (λ code. code) (answer_or_code h266_answers.rules config offered ours)
+    result_map_both s.H266 (λ code. code)
+    (answer_or_code (in_cast config h266_answers.multicast_terms h266_answers.rules) config offered
+    ours)
 sdp_answer config offered ours = Err no_answer
+
+-- the first rule that parameters break as a format of one's own
+abbrev pub sdp_own_fault : AnswerConfig → SdpEndpoint → Option FormatFault
+sdp_own_fault config (s.H264 it) = own_fault (h264_answers.rules config.rules) config it
+sdp_own_fault config (s.H265 it) = own_fault (h265_answers.rules config.rules) config it
+sdp_own_fault config (s.H266 it) = own_fault h266_answers.rules config it
+
+-- the name of the parameter at a place of the table
+abbrev pub sdp_name : SdpEndpoint → ℕ → Option (List ℕ)
+sdp_name it place = option_map (λ (row : ParameterRow). row.name)
+    (slice_get (sdp_rows (sdp_codec it)) place)
 
 -- parameters as they are written
 abbrev pub sdp_text : SdpEndpoint → List ℕ

@@ -16,6 +16,10 @@ use Rattle.h26x_sdp.specs.declared.error.CapabilityPointsError.{CapabilityPoints
 use Rattle.h26x_sdp.specs.declared.error.CapabilityPointsError.TheVariants as b
 use Rattle.h26x_sdp.specs.declared.error.ConstraintsError.{ConstraintsError}
 use Rattle.h26x_sdp.specs.declared.error.ConstraintsError.TheVariants as t
+use Rattle.h26x_sdp.specs.declared.error.RtxError.{RtxError}
+use Rattle.h26x_sdp.specs.declared.error.RtxError.TheVariants as x
+use Rattle.h26x_answers.specs.declared.fault.FormatFault.{FormatFault}
+use Rattle.h26x_answers.specs.declared.fault.FormatFault.TheVariants as r
 use Rattle.h26x_fmtp.specs.declared.rtp_map.RtpMapError.{RtpMapError}
 use Rattle.h26x_fmtp.specs.declared.rtp_map.RtpMapError.TheVariants as m
 use Rattle.h26x_sdp_handles.specs.declared.sdp_code.Refused.{Refused}
@@ -41,6 +45,10 @@ no_answer = 37
 -- a number is no payload type
 abbrev pub no_payload_type : ℕ
 no_payload_type = 38
+
+-- a text would be read as more than a value
+abbrev pub not_a_value : ℕ
+not_a_value = 49
 
 -- a code that is of no place
 abbrev pub refused_with : ℕ → Refused
@@ -98,6 +106,25 @@ stream_code s.NoParameterSet = 33
 stream_code s.ShortParameterSet = 34
 stream_code s.NoProfile = 35
 stream_code s.OutOfMemory = out_of_memory
+
+-- why a text is no format of retransmission
+abbrev pub rtx_refused : RtxError → Refused
+rtx_refused (x.Parameters error) = parameters_refused error
+rtx_refused x.NoPayloadType = refused_with 63
+rtx_refused x.OutOfMemory = refused_with out_of_memory
+
+-- the rule that a format breaks, and the place in the table of the parameter that it is of
+abbrev pub format_fault_refused : FormatFault → Refused
+format_fault_refused r.Profile = refused_with 64
+format_fault_refused r.Level = refused_with 65
+format_fault_refused r.HighestLevel = refused_with 66
+format_fault_refused (r.BelowLevel place) = record { code = 67; place = place }
+format_fault_refused r.Reordering = refused_with 68
+format_fault_refused r.OutOfOrder = refused_with 69
+format_fault_refused (r.AboveLevel place) = record { code = 70; place = place }
+format_fault_refused r.AspectRatios = refused_with 71
+format_fault_refused r.InBandSets = refused_with 72
+format_fault_refused r.HashTypes = refused_with 73
 
 -- why a text is no payload type of one of the codecs
 abbrev pub rtp_map_code : RtpMapError → ℕ

@@ -8,11 +8,16 @@ ghost use Rattle.h26x_fmtp.specs.Units.{sprop_units_at};
 ghost use Rattle.h26x_sdp_handles.specs.KeptUnits.{kept_view};
 ghost use Rattle.h26x_sdp_handles.specs.Sdp as spec;
 ghost use Rattle.h26x_sdp_handles.specs.Sdp.{named_units};
+ghost use Rattle.h26x_fmtp.specs.ParametersViews.{slice_view};
+ghost use Rattle.h26x_sdp_handles.specs.ChangedParameters as changed;
 
-use crate::sdp_code::{ABSENT, OTHER_KIND, Refused, UNKNOWN_NAME, of_units, refused_with};
+use crate::changed_parameters::{is_one_part, with_value};
+use crate::sdp_code::{
+    ABSENT, NOT_A_VALUE, OTHER_KIND, Refused, UNKNOWN_NAME, code_of_fault, of_units, refused_with,
+};
 use crate::sdp_parameter::ListedParameter;
 use h26x_codes::code::OUT_OF_MEMORY;
-use h26x_fmtp::{Kind, ParametersError, UnitsError, row_of};
+use h26x_fmtp::{Kind, ParametersError, UnitsError, row_of, trimmed};
 use h26x_sdp::CodecParameters;
 use std::alloc::Global;
 use std::marker::Model;
@@ -122,6 +127,48 @@ impl<P: ListedParameter> KeptParameters<P> {
         ensures { result.now ≡ self.now }
     {
         &self.parameters
+    }
+
+    /// The same with this value at a place, or with none.
+    fn with_value_at(&self, alloc: Global, place: usize, value: Option<&[u8]>) -> Result<Self, u32>
+        requires { place < length P.rows }
+        ensures { spec.IsOrOutOfMemory result
+            (Ok (changed.with_value_at place (slice_view value.entry) self.now)) }
+    {
+        match with_value(alloc, self.parameters.parameters(), place, value) {
+            Ok(it) => KeptParameters::of(alloc, CodecParameters::of_parameters(it)),
+            Err(_) => Err(OUT_OF_MEMORY),
+        }
+    }
+
+    /// The same with a value of the parameter with a name, without regard to case; white space at its
+    /// ends is left out.
+    pub fn with_named_value(&self, alloc: Global, name: &[u8], value: &[u8]) -> Result<Self, u32>
+        ensures { spec.IsOrOutOfMemory result
+            (changed.with_named_value P.rows self.now name.now value.now) }
+    {
+        let Some((place, kind)) = row_of(P::rows(), name) else {
+            return Err(UNKNOWN_NAME);
+        };
+        let value = trimmed(value);
+        if !is_one_part(value) {
+            return Err(NOT_A_VALUE);
+        }
+        match kind.fault_in(value) {
+            Some(fault) => Err(code_of_fault(fault)),
+            None => self.with_value_at(alloc, place, Some(value)),
+        }
+    }
+
+    /// The same without a value of the parameter with a name, without regard to case.
+    pub fn without_named_value(&self, alloc: Global, name: &[u8]) -> Result<Self, u32>
+        ensures { spec.IsOrOutOfMemory result
+            (changed.without_named_value P.rows self.now name.now) }
+    {
+        match row_of(P::rows(), name) {
+            Some((place, _)) => self.with_value_at(alloc, place, None),
+            None => Err(UNKNOWN_NAME),
+        }
     }
 
     /// The units of the parameter with a name, without regard to case.

@@ -2,7 +2,10 @@
 //! and with the units in them, read once; and the numbers by which calls on them answer.
 #![tactic(auto)]
 
+pub mod answer_options;
+mod changed_parameters;
 pub mod kept_parameters;
+pub mod repair;
 pub mod sdp;
 pub mod sdp_code;
 pub mod sdp_parameter;

@@ -1,23 +1,28 @@
 //! Format parameters of SDP, with their codec.
 
 ghost use Rattle.std.specs.Prelude.{◌≡◌, ◌⊎◌, Ok, Err, Some, None, IfOk, map};
-ghost use Rattle.h26x_answers.specs.Answers.{rules_of};
-ghost use Rattle.h26x_fmtp.specs.ParametersViews.{other_view};
+ghost use Rattle.std.specs.List.{slice_get};
+ghost use Rattle.std.specs.Option.{option_map};
+ghost use Rattle.h26x_answers.specs.Answers.{rules_in};
+ghost use Rattle.h26x_fmtp.specs.TableViews.{row_view};
+ghost use Rattle.h26x_fmtp.specs.Tables.{ParameterRow as Row};
+ghost use Rattle.h26x_fmtp.specs.ParametersViews.{other_view, SaysValue};
 ghost use Rattle.h26x_codes.specs.Codes as codes;
 ghost use Rattle.h26x_sdp_handles.specs.SdpCodes.{no_answer};
 ghost use Rattle.h26x_sdp_handles.specs.SdpCodes as code;
 ghost use Rattle.h26x_sdp_handles.specs.Sdp as spec;
+ghost use Rattle.h26x_sdp_handles.specs.ChangedParameters.{sdp_with_value, sdp_without_value};
 
 use crate::kept_parameters::KeptParameters;
 use crate::sdp_code::{
     ABSENT, NO_ANSWER, OTHER_KIND, Refused, UNKNOWN_NAME, of_parameters, of_stream,
 };
 use crate::sdp_parameter::{ListedParameter, parameter_of};
-use h26x_answers::{AnswerConfig, answer_format};
+use h26x_answers::{AnswerConfig, FormatFault, answer_format, own_fault};
 use h26x_codec::Codec;
 use h26x_codes::code::{NOT_OF_THIS_CODEC, OUT_OF_MEMORY};
-use h26x_fmtp::{Kind, OtherParameter};
-use h26x_sdp::{CodecParameters, H264Parameter, H265Parameter, H266Parameter};
+use h26x_fmtp::{Kind, OtherParameter, ParameterRow};
+use h26x_sdp::{CodecParameter, CodecParameters, H264Parameter, H265Parameter, H266Parameter};
 use h26x_stream_parameters::{h264_of_payload, h265_of_payload, h266_of_payload};
 use std::alloc::{AllocError, Global};
 use std::slice;
@@ -82,6 +87,17 @@ fn number_of<P: ListedParameter>(
     number.ok_or(ABSENT)
 }
 
+/// The name of the row at a place.
+fn name_at(rows: &'static [ParameterRow], place: usize) -> Option<&'static [u8]>
+    ensures { SaysValue result (option_map (λ (row : Row). row.name)
+        (slice_get (map row_view rows.now) place)) }
+{
+    match rows.get(place) {
+        Some(row) => Some(row.name),
+        None => None,
+    }
+}
+
 /// The answer to an offered format by one of ours, or that there is none.
 fn answer_of<P: ListedParameter>(
     alloc: Global,
@@ -90,8 +106,8 @@ fn answer_of<P: ListedParameter>(
     ours: &KeptParameters<P>,
 ) -> Result<KeptParameters<P>, u32>
     ensures { spec.IsOrOutOfMemory result (spec.answer_or_code
-        (rules_of config.rules P.rows P.roles P.terms P.known P.fault P.reorders) config offered.now
-        ours.now) }
+        (rules_in config P.rows P.roles P.terms P.multicast_terms P.known P.fault P.reorders P.usages)
+        config offered.now ours.now) }
 {
     match answer_format(
         alloc,
@@ -169,6 +185,56 @@ impl SdpEndpoint {
                 Ok(SdpEndpoint::H266(answer_of(alloc, config, offered, ours)?))
             }
             _ => Err(NO_ANSWER),
+        }
+    }
+
+    /// The first rule that they break as a format of one's own, if they break one.
+    pub fn own_fault(&self, config: AnswerConfig) -> Option<FormatFault>
+        ensures { result ≡ spec.sdp_own_fault config self.now }
+    {
+        match self {
+            SdpEndpoint::H264(it) => own_fault(config, it.parameters()),
+            SdpEndpoint::H265(it) => own_fault(config, it.parameters()),
+            SdpEndpoint::H266(it) => own_fault(config, it.parameters()),
+        }
+    }
+
+    /// The name of the parameter at a place of the table.
+    pub fn name(&self, place: usize) -> Option<&'static [u8]>
+        ensures { SaysValue result (spec.sdp_name self.now place) }
+    {
+        match self {
+            SdpEndpoint::H264(_) => name_at(H264Parameter::rows(), place),
+            SdpEndpoint::H265(_) => name_at(H265Parameter::rows(), place),
+            SdpEndpoint::H266(_) => name_at(H266Parameter::rows(), place),
+        }
+    }
+
+    /// The same with a value of the parameter with a name, without regard to case.
+    pub fn with_value(&self, alloc: Global, name: &[u8], value: &[u8]) -> Result<Self, u32>
+        ensures { spec.IsOrOutOfMemory result (sdp_with_value self.now name.now value.now) }
+    {
+        match self {
+            SdpEndpoint::H264(it) => {
+                Ok(SdpEndpoint::H264(it.with_named_value(alloc, name, value)?))
+            }
+            SdpEndpoint::H265(it) => {
+                Ok(SdpEndpoint::H265(it.with_named_value(alloc, name, value)?))
+            }
+            SdpEndpoint::H266(it) => {
+                Ok(SdpEndpoint::H266(it.with_named_value(alloc, name, value)?))
+            }
+        }
+    }
+
+    /// The same without a value of the parameter with a name, without regard to case.
+    pub fn without_value(&self, alloc: Global, name: &[u8]) -> Result<Self, u32>
+        ensures { spec.IsOrOutOfMemory result (sdp_without_value self.now name.now) }
+    {
+        match self {
+            SdpEndpoint::H264(it) => { Ok(SdpEndpoint::H264(it.without_named_value(alloc, name)?)) }
+            SdpEndpoint::H265(it) => { Ok(SdpEndpoint::H265(it.without_named_value(alloc, name)?)) }
+            SdpEndpoint::H266(it) => { Ok(SdpEndpoint::H266(it.without_named_value(alloc, name)?)) }
         }
     }
 

@@ -369,6 +369,17 @@ impl End {
         String::from_utf8(text).expect("text")
     }
 
+    /// Gives a parameter a value; the code.
+    pub fn set(&mut self, name: &str, value: &str) -> u32 {
+        let (at, len) = (value.as_ptr(), value.len());
+        unsafe { h26x_sdp_set(&mut self.raw, name.as_ptr(), name.len(), at, len) }
+    }
+
+    /// Takes it away; the code.
+    pub fn unset(&mut self, name: &str) -> u32 {
+        unsafe { h26x_sdp_unset(&mut self.raw, name.as_ptr(), name.len()) }
+    }
+
     /// The answer to these parameters by ours.
     pub fn answer(&self, ours: &End) -> Option<End> {
         made(self.free, |raw| unsafe {
@@ -385,10 +396,10 @@ impl End {
         .ok()
     }
 
-    /// The same as WebRTC's peers do it, of units in decoding order.
-    pub fn answer_webrtc(&self, ours: &End) -> Option<End> {
+    /// The same as WebRTC's peers do it, of units in decoding order or in any.
+    pub fn answer_webrtc(&self, ours: &End, any_order: bool) -> Option<End> {
         made(self.free, |raw| unsafe {
-            h26x_sdp_answer_webrtc(&self.raw, &ours.raw, false, raw)
+            h26x_sdp_answer_webrtc(&self.raw, &ours.raw, any_order, raw)
         })
         .ok()
     }

@@ -10,7 +10,7 @@ use crate::runs::beside;
 use emupedestal::access_unit_receiver::{AccessUnitConfig, AccessUnitReceiver, Pushed};
 use emupedestal::sdp::{
     AnswerConfig, AnswerRules, CodecParameters, H264Parameters, H265Parameters, H266Parameters,
-    Parameter, ParametersError,
+    Parameter, ParametersError, SetError,
 };
 use emupedestal::{Codec, PacketError, RtpPacket};
 
@@ -190,7 +190,7 @@ pub fn access_units(seed: u64, case: u64, ours: &mut Log, theirs: &mut Log) {
 }
 
 /// The code of a refusal and the place of the parameter.
-fn refusal(error: ParametersError) -> (u32, usize) {
+pub fn refusal(error: ParametersError) -> (u32, usize) {
     use emupedestal::sdp::Fault;
     match error {
         ParametersError::OpenBrace => (20, 0),
@@ -205,6 +205,55 @@ fn refusal(error: ParametersError) -> (u32, usize) {
         },
         _ => (u32::MAX, 0),
     }
+}
+
+/// Names and values, drawn as a format is.
+fn settings(text: &str) -> impl Iterator<Item = (&str, &str)> {
+    text.split(';').filter_map(|part| part.split_once('='))
+}
+
+/// The code of what gives a parameter a value, or takes it away where there is none.
+fn changed<P: Parameter>(it: &mut CodecParameters<P>, name: &str, value: Option<&str>) -> u32 {
+    let Some(parameter) = P::of_name(name) else {
+        return 26;
+    };
+    let changed = match value {
+        Some(value) => it.set(parameter, value),
+        None => it.remove(parameter),
+    };
+    match changed {
+        Ok(()) => 0,
+        Err(SetError::Fault(fault)) => refusal(ParametersError::Refused { place: 0, fault }).0,
+        Err(SetError::NotAValue) => 49,
+        _ => u32::MAX,
+    }
+}
+
+/// A format of which the settings of another text are set, and dropped again.
+fn changes<P: Parameter>(codec: Codec, texts: &[String; 2], ours: &mut Log, theirs: &mut Log) {
+    if let Ok(mut it) = texts[0].parse::<CodecParameters<P>>() {
+        for (name, value) in settings(&texts[1]) {
+            let code = changed(&mut it, name, Some(value));
+            ours.say("set", format!("{code} {it}"));
+        }
+        for (name, _) in settings(&texts[1]) {
+            let code = changed(&mut it, name, None);
+            ours.say("unset", format!("{code} {it}"));
+        }
+    }
+    beside! {
+        if let Ok(mut it) = c::sdp(number(codec), texts[0].as_bytes()) {
+            for (name, value) in settings(&texts[1]) {
+                let code = it.set(name, value);
+                theirs.say("set", format!("{code} {}", it.text()));
+            }
+            for (name, _) in settings(&texts[1]) {
+                let code = it.unset(name);
+                theirs.say("unset", format!("{code} {}", it.text()));
+            }
+        }
+    }
+    let _ = (codec, theirs);
 }
 
 /// Parameters of two formats, written, and the answer of the one to the other.
@@ -244,7 +293,7 @@ fn answers<P: Parameter>(codec: Codec, texts: &[String; 2], ours: &mut Log, thei
             for answer in [
                 offered.answer(own),
                 offered.answer_any_order(own),
-                offered.answer_webrtc(own),
+                offered.answer_webrtc(own, false),
             ] {
                 theirs.say("answer", answer.map(|it| it.text()));
             }
@@ -262,6 +311,11 @@ pub fn formats(seed: u64, case: u64, ours: &mut Log, theirs: &mut Log) {
         Codec::H264 => answers::<emupedestal::sdp::H264Parameter>(codec, &texts, ours, theirs),
         Codec::H265 => answers::<emupedestal::sdp::H265Parameter>(codec, &texts, ours, theirs),
         Codec::H266 => answers::<emupedestal::sdp::H266Parameter>(codec, &texts, ours, theirs),
+    }
+    match codec {
+        Codec::H264 => changes::<emupedestal::sdp::H264Parameter>(codec, &texts, ours, theirs),
+        Codec::H265 => changes::<emupedestal::sdp::H265Parameter>(codec, &texts, ours, theirs),
+        Codec::H266 => changes::<emupedestal::sdp::H266Parameter>(codec, &texts, ours, theirs),
     }
     let of_payload = match codec {
         Codec::H264 => H264Parameters::of_payload(&payload)

@@ -30,6 +30,10 @@ mod sdp;
 #[cfg(feature = "sdp")]
 mod sdp_answers;
 #[cfg(feature = "sdp")]
+mod sdp_directions;
+#[cfg(feature = "sdp")]
+mod sdp_rows;
+#[cfg(feature = "sdp")]
 mod sdp_streams;
 mod sequenced;
 mod shown;

@@ -56,10 +56,10 @@ fn cases(function: &str) -> Vec<(Option<&'static str>, Option<String>)> {
 #[test]
 fn words_of_codes() {
     let cases = cases("*h26x_strerror");
-    assert_eq!(cases.len(), 61);
+    assert_eq!(cases.len(), 73);
     for (name, answer) in cases {
         assert_eq!(
-            text(h26x_strerror(name.map_or(49, number))),
+            text(h26x_strerror(name.map_or(u32::MAX, number))),
             answer,
             "{name:?}"
         );

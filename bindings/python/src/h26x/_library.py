@@ -127,6 +127,16 @@ class ConstraintsSaid(Structure):
     ]
 
 
+class RtxNumbers(Structure):
+    """A format of retransmission."""
+
+    _fields_ = [
+        ("rtx_time", c_uint64),
+        ("payload_type", c_uint8),
+        ("has_rtx_time", c_bool),
+    ]
+
+
 class PointNumbers(Structure):
     """A capability point."""
 
@@ -293,6 +303,7 @@ _TIMES = POINTER(NackTimesGiven)
 _UNIT = POINTER(UnitTold)
 _COUNTS = POINTER(UnitsCounts)
 _SAID = POINTER(ConstraintsSaid)
+_RTX = POINTER(RtxNumbers)
 _FIELDS = POINTER(RtpFields)
 _PLACES = POINTER(RtpPlaces)
 _REPORT = POINTER(ReportGiven)
@@ -435,9 +446,14 @@ CALLS: Dict[str, Tuple[Any, List[Any]]] = {
     "sdp_answer": (c_uint32, [_HANDLE, _HANDLE, _HANDLE]),
     "sdp_answer_any_order": (c_uint32, [_HANDLE, _HANDLE, _HANDLE]),
     "sdp_answer_webrtc": (c_uint32, [_HANDLE, _HANDLE, c_bool, _HANDLE]),
+    "sdp_answer_with": (c_uint32, [_HANDLE, _HANDLE, c_uint32, _HANDLE]),
+    "sdp_broken_rule": (c_uint32, [_HANDLE, c_uint32, _WHY]),
+    "sdp_name": (c_uint32, [_HANDLE, c_size_t, *_OUT, _SIZE]),
     "sdp_free": _FREE,
     "sdp_codec": (c_uint32, [_HANDLE]),
     "sdp_write": (c_uint32, [_HANDLE, *_OUT, _SIZE]),
+    "sdp_set": (c_uint32, [_HANDLE, *_IN, *_IN]),
+    "sdp_unset": (c_uint32, [_HANDLE, *_IN]),
     "sdp_value": (c_uint32, [_HANDLE, *_IN, c_bool, *_OUT, _SIZE]),
     "sdp_number": (c_uint32, [_HANDLE, *_IN, c_bool, _LONG]),
     "sdp_units": (c_uint32, [_HANDLE, *_IN, _SIZE, _WHY]),
@@ -449,6 +465,10 @@ CALLS: Dict[str, Tuple[Any, List[Any]]] = {
     "fits_single_units": (c_bool, [*_IN, c_size_t]),
     "rtpmap_read": (c_uint32, [*_IN, _BYTE, _WORD]),
     "rtpmap_write": (c_uint32, [c_uint8, c_uint32, *_OUT, _SIZE]),
+    "repairmap_read": (c_uint32, [*_IN, _BYTE, _WORD]),
+    "repairmap_write": (c_uint32, [c_uint8, c_uint32, *_OUT, _SIZE]),
+    "rtx_format_read": (c_uint32, [*_IN, _RTX, _WHY]),
+    "rtx_format_write": (c_uint32, [_RTX, *_OUT, _SIZE]),
 }
 
 

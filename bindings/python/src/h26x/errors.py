@@ -6,7 +6,7 @@ and go on with the next.
 
 from __future__ import annotations
 
-from typing import Dict, Type
+from typing import Dict, Optional, Type
 
 from ._library import library
 
@@ -433,6 +433,12 @@ class SdpLongConstraints(ConstraintsError):
     code = 48
 
 
+class SdpNotAValue(Error, ValueError):
+    """A text would be read as more than a value: it has a `;` outside braces, or leaves one open."""
+
+    code = 49
+
+
 class RtpError(Error, ValueError):
     """Bytes are no RTP packet (RFC 3550, 5.1). It is the first fault from the left."""
 
@@ -523,6 +529,82 @@ class RedBlocksPastTheEnd(RedError):
     code = 62
 
 
+class SdpNoApt(Error, ValueError):
+    """A format of retransmission says no payload type that it belongs to (RFC 4588, 8.3)."""
+
+    code = 63
+
+
+class BrokenRule(Error, ValueError):
+    """A rule that a format of one's own breaks (RFC 6184, 8.1; RFC 7798, 7.1; RFC 9328, 7.2)."""
+
+    #: The parameter that it is of; None where it is of none.
+    parameter: Optional[str] = None
+
+    def _numbers(self) -> str:
+        return "" if self.parameter is None else f" ({self.parameter})"
+
+
+class SdpRuleProfile(BrokenRule):
+    """The standard has no such profile."""
+
+    code = 64
+
+
+class SdpRuleLevel(BrokenRule):
+    """The standard has no such level."""
+
+    code = 65
+
+
+class SdpRuleHighestLevel(BrokenRule):
+    """The highest level that is received isn't above the level, or is none."""
+
+    code = 66
+
+
+class SdpRuleBelowLevel(BrokenRule):
+    """A parameter is below what the highest level asks for."""
+
+    code = 67
+
+
+class SdpRuleReordering(BrokenRule):
+    """What is said of packets out of order stands where there are none, or is absent."""
+
+    code = 68
+
+
+class SdpRuleOutOfOrder(BrokenRule):
+    """Units may be sent in another order than decoded, and `any_order` isn't said."""
+
+    code = 69
+
+
+class SdpRuleAboveLevel(BrokenRule):
+    """A parameter is above 16 times what the highest level asks for."""
+
+    code = 70
+
+
+class SdpRuleAspectRatios(BrokenRule):
+    """`sar-supported` is above `sar-understood`, and not 255."""
+
+    code = 71
+
+
+class SdpRuleInBandSets(BrokenRule):
+    """Parameter sets of levels are used where all go in band."""
+
+    code = 72
+
+
+class SdpRuleHashTypes(BrokenRule):
+    """`include-dph` is no list of numbers up to 255."""
+
+    code = 73
+
+
 _ERRORS: Dict[int, Type[Error]] = {
     error.code: error
     for error in (
@@ -572,6 +654,7 @@ _ERRORS: Dict[int, Type[Error]] = {
         SdpConstraintsNotBase64,
         SdpShortConstraints,
         SdpLongConstraints,
+        SdpNotAValue,
         RtpTooShort,
         RtpOtherVersion,
         RtpCsrcsPastTheEnd,
@@ -585,6 +668,17 @@ _ERRORS: Dict[int, Type[Error]] = {
         RtxNoOriginal,
         RedHeadersPastTheEnd,
         RedBlocksPastTheEnd,
+        SdpNoApt,
+        SdpRuleProfile,
+        SdpRuleLevel,
+        SdpRuleHighestLevel,
+        SdpRuleBelowLevel,
+        SdpRuleReordering,
+        SdpRuleOutOfOrder,
+        SdpRuleAboveLevel,
+        SdpRuleAspectRatios,
+        SdpRuleInBandSets,
+        SdpRuleHashTypes,
     )
 }
 

@@ -6,14 +6,35 @@ from __future__ import annotations
 from contextlib import ExitStack
 from ctypes import byref, c_size_t, c_uint8, c_uint32, c_uint64
 from dataclasses import dataclass
-from enum import Enum
+from enum import Enum, IntEnum
 from typing import Any, List, NamedTuple, NoReturn, Optional, Tuple
 
 from ._handle import Owner
 from ._library import ConstraintsSaid, Handle, PointNumbers, Refusal, library
 from ._memory import Buffer, Room, as_bytes, number
 from .codec import Codec, codec_of
-from .errors import NoRoom, OutOfMemory, SdpAbsent, SdpNoAnswer, check, error_of
+from .errors import (
+    BrokenRule,
+    NoRoom,
+    OutOfMemory,
+    SdpAbsent,
+    SdpNoAnswer,
+    SdpRuleAboveLevel,
+    SdpRuleBelowLevel,
+    check,
+    error_of,
+)
+
+
+class Direction(IntEnum):
+    """Which way an end's media goes (RFC 3264, 5.1 and 6.1)."""
+
+    #: `a=sendrecv`, and what isn't said.
+    SENDRECV = 0
+    #: `a=sendonly`: it sends alone.
+    SENDONLY = 1
+    #: `a=recvonly`: it receives alone.
+    RECVONLY = 2
 
 
 class LevelSets(NamedTuple):
@@ -166,6 +187,29 @@ class FormatParameters(Owner):
         """That of the codec and the text. Raises OutOfMemory."""
         return hash((self._codec, str(self)))
 
+    def with_value(self, name: str, value: str) -> FormatParameters:
+        """The same with a parameter's value, in the place of the one that it has; white space at its ends is
+        left out. Raises SdpNotAValue, of a text that would be read as more than a value; a ParametersError, of
+        a value that is none of the parameter; or OutOfMemory.
+
+        >>> own = FormatParameters.read(Codec.H264, "profile-level-id=42e01f;packetization-mode=1")
+        >>> str(own.with_value("profile-level-id", "42e015").without_value("packetization-mode"))
+        'profile-level-id=42e015'
+        """
+        named, given = _utf8(name), _utf8(value)
+        return self._changed(library.h26x_sdp_set, named, len(named), given, len(given))
+
+    def without_value(self, name: str) -> FormatParameters:
+        """The same without a parameter's value, where it has one. Raises OutOfMemory."""
+        named = _utf8(name)
+        return self._changed(library.h26x_sdp_unset, named, len(named))
+
+    def _changed(self, call: Any, *arguments: Any) -> FormatParameters:
+        """What a call makes of a copy."""
+        made = self._of(self._codec, _read(self._codec, str(self)))
+        check(made._with_handle(call, *arguments))
+        return made
+
     def value(self, name: str, or_default: bool = False) -> Optional[str]:
         """The value of a parameter, as it came. Where it is absent: with `or_default` what the RFC takes
         for it, if it says what; else None."""
@@ -310,12 +354,20 @@ class FormatParameters(Owner):
                 most = count.value
 
     def answer(
-        self, *ours: FormatParameters, any_order: bool = False, webrtc: bool = False
+        self,
+        *ours: FormatParameters,
+        any_order: bool = False,
+        webrtc: bool = False,
+        direction: Direction = Direction.SENDRECV,
+        multicast: bool = False,
     ) -> Optional[FormatParameters]:
         """The answer to these parameters of an offer, by the first of ours that gives one; None where none
         does, as where the standard has no such profile or level. One of ours that its RFC forbids, as a
-        max-fs below the level's, gives none. It is for both directions, and for unicast (RFC 6184, 8.2.2;
-        RFC 7798, 7.2.2; RFC 9328, 7.3.2). Raises OutOfMemory.
+        max-fs below the level's, gives none (RFC 6184, 8.2.2; RFC 7798, 7.2.2; RFC 9328, 7.3.2). Raises
+        OutOfMemory.
+
+        `direction` is which way our media goes: parameters that aren't usable there, by the tables of the
+        RFCs, are ignored, and not answered. By `multicast` the offered level is kept, or there is no answer.
 
         Formats whose units may be sent in another order than decoded (packetization-mode 2,
         sprop-max-don-diff above 0) are answered only with `any_order`: by an end that reads STAP-B, MTAP and
@@ -331,24 +383,41 @@ class FormatParameters(Owner):
         answer, with its payload type (RFC 3264, 6.1)."""
         for own in ours:
             made = Handle()
-            code = self._answer(own, made, any_order, webrtc)
+            code = self._answer(own, made, _options(any_order, webrtc, direction, multicast))
             if code != SdpNoAnswer.code:
                 check(code)
                 return self._of(self._codec, made)
         return None
 
-    def _answer(self, ours: FormatParameters, made: Handle, any_order: bool, webrtc: bool) -> int:
+    def _answer(self, ours: FormatParameters, made: Handle, options: int) -> int:
         """Has the answer made by one of ours."""
         with ExitStack() as locks:
             # In one order, so that two threads that answer by the same two don't wait for each other.
             for one in [self] if ours is self else sorted((self, ours), key=id):
                 locks.enter_context(one._lock)
-            if webrtc:
-                code = library.h26x_sdp_answer_webrtc(self._live(), ours._live(), any_order, byref(made))
-            else:
-                call = library.h26x_sdp_answer_any_order if any_order else library.h26x_sdp_answer
-                code = call(self._live(), ours._live(), byref(made))
+            code = library.h26x_sdp_answer_with(self._live(), ours._live(), options, byref(made))
         return int(code)
+
+    def broken_rule(self, any_order: bool = False, webrtc: bool = False) -> Optional[BrokenRule]:
+        """The first rule that these parameters break as a format of one's own, which then gives no answer;
+        None where they break none. What may be said is as of `answer`.
+
+        >>> own = FormatParameters.read(Codec.H264, "profile-level-id=42e01f;max-fs=99")
+        >>> rule = own.broken_rule()
+        >>> type(rule).__name__, rule.parameter
+        ('SdpRuleBelowLevel', 'max-fs')
+        """
+        why = Refusal()
+        with self._lock:
+            code = library.h26x_sdp_broken_rule(self._live(), _options(any_order, webrtc), byref(why))
+            if code == 0:
+                return None
+            rule = error_of(code, why.first)
+            if not isinstance(rule, BrokenRule):
+                raise rule
+            if isinstance(rule, (SdpRuleAboveLevel, SdpRuleBelowLevel)):
+                rule.parameter = self._written(library.h26x_sdp_name, why.first).decode()
+        return rule
 
     def __copy__(self) -> NoReturn:
         """The library has no copy of it."""
@@ -399,6 +468,13 @@ def fits_single_units(payload: Buffer, limit: int) -> bool:
     `packetize_unit`, since `packetize` puts both into one packet."""
     data = as_bytes(payload)
     return bool(library.h26x_fits_single_units(data, len(data), number("limit", limit)))
+
+
+def _options(
+    any_order: bool, webrtc: bool, direction: Direction = Direction.SENDRECV, multicast: bool = False
+) -> int:
+    """How an end answers, in bits."""
+    return int(any_order) | int(webrtc) << 1 | direction << 2 | int(multicast) << 4
 
 
 def _point_of(told: PointNumbers) -> CapabilityPoint:

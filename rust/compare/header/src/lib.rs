@@ -274,6 +274,14 @@ unsafe extern "C" {
         any_order: bool,
         made: *mut Raw,
     ) -> u32;
+    pub fn h26x_sdp_set(
+        h: *mut Raw,
+        name: *const u8,
+        name_len: usize,
+        value: *const u8,
+        value_len: usize,
+    ) -> u32;
+    pub fn h26x_sdp_unset(h: *mut Raw, name: *const u8, name_len: usize) -> u32;
     pub fn h26x_sdp_free(h: Raw);
     pub fn h26x_sdp_write(h: *const Raw, to: *mut u8, room: usize, len: *mut usize) -> u32;
 }

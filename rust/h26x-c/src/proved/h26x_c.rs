@@ -18,6 +18,7 @@ mod profiles;
 mod push_all;
 mod receive_all;
 mod receiving;
+mod repair;
 mod rtcp;
 mod rtp;
 mod rtp_map;

@@ -25,6 +25,7 @@ pub use crate::proved::h26x_handles::access_units::UnitTold;
 pub use crate::proved::h26x_handles::payloads::RtpPayload;
 pub use crate::proved::h26x_handles::push_all::PushTold;
 pub use crate::proved::h26x_handles::receive_all::ReceivedTold;
+pub use crate::proved::h26x_sdp_handles::repair::RtxNumbers;
 pub use crate::proved::h26x_sdp_handles::sdp_values::ConstraintNumbers;
 pub use crate::proved::h26x_sdp_handles::sdp_values::PointNumbers;
 use core::mem::MaybeUninit;
@@ -581,6 +582,82 @@ pub unsafe extern "C" fn h26x_written_copy(
 pub unsafe extern "C" fn h26x_give_up_run(d: *mut Handle) -> u32 {
     // SAFETY: a caller owes what the header says.
     unsafe { super::receiving::h26x_give_up_run(pointers::lent(d)) }
+}
+
+#[unsafe(no_mangle)]
+pub unsafe extern "C" fn h26x_repairmap_read(
+    text: *const u8,
+    text_len: usize,
+    payload_type: *mut u8,
+    format: *mut u32,
+) -> u32 {
+    let mut no_payload_type = MaybeUninit::uninit();
+    let mut no_format = MaybeUninit::uninit();
+    // SAFETY: a caller owes what the header says.
+    unsafe {
+        super::repair::h26x_repairmap_read(
+            pointers::items(text, text_len),
+            pointers::output(payload_type, &mut no_payload_type),
+            pointers::output(format, &mut no_format),
+        )
+    }
+}
+
+#[unsafe(no_mangle)]
+pub unsafe extern "C" fn h26x_repairmap_write(
+    payload_type: u8,
+    format: u32,
+    to: *mut u8,
+    room: usize,
+    len: *mut usize,
+) -> u32 {
+    let mut no_len = MaybeUninit::uninit();
+    // SAFETY: a caller owes what the header says.
+    unsafe {
+        super::repair::h26x_repairmap_write(
+            payload_type,
+            format,
+            pointers::room(to, room),
+            pointers::output(len, &mut no_len),
+        )
+    }
+}
+
+#[unsafe(no_mangle)]
+pub unsafe extern "C" fn h26x_rtx_format_read(
+    text: *const u8,
+    text_len: usize,
+    format: *mut RtxNumbers,
+    why: *mut Refusal,
+) -> u32 {
+    let mut no_format = MaybeUninit::uninit();
+    let mut no_why = MaybeUninit::uninit();
+    // SAFETY: a caller owes what the header says.
+    unsafe {
+        super::repair::h26x_rtx_format_read(
+            pointers::items(text, text_len),
+            pointers::output(format, &mut no_format),
+            pointers::output(why, &mut no_why),
+        )
+    }
+}
+
+#[unsafe(no_mangle)]
+pub unsafe extern "C" fn h26x_rtx_format_write(
+    format: *const RtxNumbers,
+    to: *mut u8,
+    room: usize,
+    len: *mut usize,
+) -> u32 {
+    let mut no_len = MaybeUninit::uninit();
+    // SAFETY: a caller owes what the header says.
+    unsafe {
+        super::repair::h26x_rtx_format_write(
+            pointers::shared(format),
+            pointers::room(to, room),
+            pointers::output(len, &mut no_len),
+        )
+    }
 }
 
 #[unsafe(no_mangle)]
@@ -1304,6 +1381,61 @@ pub unsafe extern "C" fn h26x_sdp_answer_webrtc(
 }
 
 #[unsafe(no_mangle)]
+pub unsafe extern "C" fn h26x_sdp_answer_with(
+    offered: *const ConstHandle,
+    ours: *const ConstHandle,
+    options: u32,
+    made: *mut Place,
+) -> u32 {
+    // SAFETY: a caller owes what the header says.
+    unsafe {
+        super::sdp::h26x_sdp_answer_with(
+            pointers::shared(offered),
+            pointers::shared(ours),
+            options,
+            pointers::made(made),
+        )
+    }
+}
+
+#[unsafe(no_mangle)]
+pub unsafe extern "C" fn h26x_sdp_broken_rule(
+    h: *const ConstHandle,
+    options: u32,
+    why: *mut Refusal,
+) -> u32 {
+    let mut no_why = MaybeUninit::uninit();
+    // SAFETY: a caller owes what the header says.
+    unsafe {
+        super::sdp::h26x_sdp_broken_rule(
+            pointers::shared(h),
+            options,
+            pointers::output(why, &mut no_why),
+        )
+    }
+}
+
+#[unsafe(no_mangle)]
+pub unsafe extern "C" fn h26x_sdp_name(
+    h: *const ConstHandle,
+    i: usize,
+    to: *mut u8,
+    room: usize,
+    len: *mut usize,
+) -> u32 {
+    let mut no_len = MaybeUninit::uninit();
+    // SAFETY: a caller owes what the header says.
+    unsafe {
+        super::sdp::h26x_sdp_name(
+            pointers::shared(h),
+            i,
+            pointers::room(to, room),
+            pointers::output(len, &mut no_len),
+        )
+    }
+}
+
+#[unsafe(no_mangle)]
 pub unsafe extern "C" fn h26x_sdp_free(h: Handle) {
     if h.ptr.is_null() {
         return;
@@ -1333,6 +1465,30 @@ pub unsafe extern "C" fn h26x_sdp_write(
             pointers::output(len, &mut no_len),
         )
     }
+}
+
+#[unsafe(no_mangle)]
+pub unsafe extern "C" fn h26x_sdp_set(
+    h: *mut Handle,
+    name: *const u8,
+    name_len: usize,
+    value: *const u8,
+    value_len: usize,
+) -> u32 {
+    // SAFETY: a caller owes what the header says.
+    unsafe {
+        super::sdp::h26x_sdp_set(
+            pointers::lent(h),
+            pointers::items(name, name_len),
+            pointers::items(value, value_len),
+        )
+    }
+}
+
+#[unsafe(no_mangle)]
+pub unsafe extern "C" fn h26x_sdp_unset(h: *mut Handle, name: *const u8, name_len: usize) -> u32 {
+    // SAFETY: a caller owes what the header says.
+    unsafe { super::sdp::h26x_sdp_unset(pointers::lent(h), pointers::items(name, name_len)) }
 }
 
 #[unsafe(no_mangle)]

@@ -2,25 +2,27 @@
 
 //! The calls on format parameters of SDP.
 
-use crate::proved::h26x_answers::{AnswerConfig, AnswerRules};
+use crate::proved::h26x_answers::{AnswerConfig, AnswerRules, Direction};
 use crate::proved::h26x_c::const_handle::ConstHandle;
 use crate::proved::h26x_c::copied::copy_out;
 use crate::proved::h26x_c::handle::Handle;
 use crate::proved::h26x_c::place::{Place, put};
 use crate::proved::h26x_codes::code::{
-    NO_ROOM, OK, OUT_OF_MEMORY, Refusal, UNKNOWN_CODEC, WRONG_END, codec_of,
+    NO_ROOM, OK, OUT_OF_MEMORY, OUT_OF_RANGE, Refusal, UNKNOWN_CODEC, WRONG_END, codec_of,
 };
 use crate::proved::h26x_codes::copy::{copy_first, copy_where_room};
 use crate::proved::h26x_endpoint::endpoint::Endpoint;
+use crate::proved::h26x_sdp_handles::answer_options::config_of;
 use crate::proved::h26x_sdp_handles::sdp::SdpEndpoint;
 use crate::proved::h26x_sdp_handles::sdp_code::{
-    ABSENT, PointRefused, Refused, number_of_codec, point_refused_with, refused_with,
+    ABSENT, PointRefused, Refused, number_of_codec, of_format_fault, point_refused_with,
+    refused_with,
 };
 use crate::proved::h26x_sdp_handles::sdp_values::{ConstraintNumbers, PointNumbers};
 use core::mem::MaybeUninit;
 
 /// Tells the place of a refusal; its code.
-fn tell(refused: Refused, why: &mut MaybeUninit<Refusal>) -> u32 {
+pub(crate) fn tell(refused: Refused, why: &mut MaybeUninit<Refusal>) -> u32 {
     why.write(Refusal {
         first: refused.place,
         second: 0,
@@ -89,6 +91,8 @@ pub fn h26x_sdp_answer(
     let config = AnswerConfig {
         any_order: false,
         rules: AnswerRules::Rfc,
+        direction: Direction::SendRecv,
+        multicast: false,
     };
     answered(config, offered, ours, made)
 }
@@ -102,6 +106,8 @@ pub fn h26x_sdp_answer_any_order(
     let config = AnswerConfig {
         any_order: true,
         rules: AnswerRules::Rfc,
+        direction: Direction::SendRecv,
+        multicast: false,
     };
     answered(config, offered, ours, made)
 }
@@ -116,8 +122,53 @@ pub fn h26x_sdp_answer_webrtc(
     let config = AnswerConfig {
         any_order,
         rules: AnswerRules::Webrtc,
+        direction: Direction::SendRecv,
+        multicast: false,
     };
     answered(config, offered, ours, made)
+}
+
+/// The same by options.
+pub fn h26x_sdp_answer_with(
+    offered: &ConstHandle,
+    ours: &ConstHandle,
+    options: u32,
+    made: &mut MaybeUninit<Place>,
+) -> u32 {
+    match config_of(options) {
+        Some(config) => answered(config, offered, ours, made),
+        None => OUT_OF_RANGE,
+    }
+}
+
+/// The first rule that they break as a format of one's own, by which they give no answer.
+pub fn h26x_sdp_broken_rule(h: &ConstHandle, options: u32, why: &mut MaybeUninit<Refusal>) -> u32 {
+    let Some(config) = config_of(options) else {
+        return tell(refused_with(OUT_OF_RANGE), why);
+    };
+    let Endpoint::Sdp(it) = h.get() else {
+        return tell(refused_with(WRONG_END), why);
+    };
+    match it.own_fault(config) {
+        Some(fault) => tell(of_format_fault(fault), why),
+        None => OK,
+    }
+}
+
+/// The name of the parameter at a place of the RFC's table, where there is room.
+pub fn h26x_sdp_name(
+    h: &ConstHandle,
+    i: usize,
+    to: &mut [u8],
+    len: &mut MaybeUninit<usize>,
+) -> u32 {
+    let Endpoint::Sdp(it) = h.get() else {
+        return WRONG_END;
+    };
+    match it.name(i) {
+        Some(name) => copy_out(name, to, len),
+        None => ABSENT,
+    }
 }
 
 /// Frees format parameters.
@@ -141,6 +192,34 @@ pub fn h26x_sdp_write(h: &ConstHandle, to: &mut [u8], len: &mut MaybeUninit<usiz
     match it.write() {
         Ok(text) => copy_out(text.as_slice(), to, len),
         Err(_) => OUT_OF_MEMORY,
+    }
+}
+
+/// Gives the parameter with a name a value, in the place of the one that it has.
+pub fn h26x_sdp_set(h: &mut Handle, name: &[u8], value: &[u8]) -> u32 {
+    let Endpoint::Sdp(it) = h.get_mut() else {
+        return WRONG_END;
+    };
+    match it.with_value(name, value) {
+        Ok(made) => {
+            *it = made;
+            OK
+        }
+        Err(code) => code,
+    }
+}
+
+/// Takes away the value of the parameter with a name, if it has one.
+pub fn h26x_sdp_unset(h: &mut Handle, name: &[u8]) -> u32 {
+    let Endpoint::Sdp(it) = h.get_mut() else {
+        return WRONG_END;
+    };
+    match it.without_value(name) {
+        Ok(made) => {
+            *it = made;
+            OK
+        }
+        Err(code) => code,
     }
 }
 

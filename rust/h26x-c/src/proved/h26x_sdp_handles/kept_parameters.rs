@@ -3,10 +3,11 @@
 //! Format parameters with the units that they have, read once.
 
 use crate::proved::h26x_codes::code::OUT_OF_MEMORY;
-use crate::proved::h26x_fmtp::{Kind, ParametersError, UnitsError, row_of};
+use crate::proved::h26x_fmtp::{Kind, ParametersError, UnitsError, row_of, trimmed};
 use crate::proved::h26x_sdp::CodecParameters;
+use crate::proved::h26x_sdp_handles::changed_parameters::{is_one_part, with_value};
 use crate::proved::h26x_sdp_handles::sdp_code::{
-    ABSENT, OTHER_KIND, Refused, UNKNOWN_NAME, of_units, refused_with,
+    ABSENT, NOT_A_VALUE, OTHER_KIND, Refused, UNKNOWN_NAME, code_of_fault, of_units, refused_with,
 };
 use crate::proved::h26x_sdp_handles::sdp_parameter::ListedParameter;
 use crate::support::TryVec;
@@ -77,6 +78,38 @@ impl<P: ListedParameter> KeptParameters<P> {
     /// The parameters.
     pub fn parameters(&self) -> &CodecParameters<P> {
         &self.parameters
+    }
+
+    /// The same with this value at a place, or with none.
+    fn with_value_at(&self, place: usize, value: Option<&[u8]>) -> Result<Self, u32> {
+        match with_value(self.parameters.parameters(), place, value) {
+            Ok(it) => KeptParameters::of(CodecParameters::of_parameters(it)),
+            Err(_) => Err(OUT_OF_MEMORY),
+        }
+    }
+
+    /// The same with a value of the parameter with a name, without regard to case; white space at its
+    /// ends is left out.
+    pub fn with_named_value(&self, name: &[u8], value: &[u8]) -> Result<Self, u32> {
+        let Some((place, kind)) = row_of(P::rows(), name) else {
+            return Err(UNKNOWN_NAME);
+        };
+        let value = trimmed(value);
+        if !is_one_part(value) {
+            return Err(NOT_A_VALUE);
+        }
+        match kind.fault_in(value) {
+            Some(fault) => Err(code_of_fault(fault)),
+            None => self.with_value_at(place, Some(value)),
+        }
+    }
+
+    /// The same without a value of the parameter with a name, without regard to case.
+    pub fn without_named_value(&self, name: &[u8]) -> Result<Self, u32> {
+        match row_of(P::rows(), name) {
+            Some((place, _)) => self.with_value_at(place, None),
+            None => Err(UNKNOWN_NAME),
+        }
     }
 
     /// The units of the parameter with a name, without regard to case.

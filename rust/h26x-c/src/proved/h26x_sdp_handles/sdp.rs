@@ -2,11 +2,13 @@
 
 //! Format parameters of SDP, with their codec.
 
-use crate::proved::h26x_answers::{AnswerConfig, answer_format};
+use crate::proved::h26x_answers::{AnswerConfig, FormatFault, answer_format, own_fault};
 use crate::proved::h26x_codec::Codec;
 use crate::proved::h26x_codes::code::{NOT_OF_THIS_CODEC, OUT_OF_MEMORY};
-use crate::proved::h26x_fmtp::{Kind, OtherParameter};
-use crate::proved::h26x_sdp::{CodecParameters, H264Parameter, H265Parameter, H266Parameter};
+use crate::proved::h26x_fmtp::{Kind, OtherParameter, ParameterRow};
+use crate::proved::h26x_sdp::{
+    CodecParameter, CodecParameters, H264Parameter, H265Parameter, H266Parameter,
+};
 use crate::proved::h26x_sdp_handles::kept_parameters::KeptParameters;
 use crate::proved::h26x_sdp_handles::sdp_code::{
     ABSENT, NO_ANSWER, OTHER_KIND, Refused, UNKNOWN_NAME, of_parameters, of_stream,
@@ -67,6 +69,14 @@ fn number_of<P: ListedParameter>(
         it.number(parameter)
     };
     number.ok_or(ABSENT)
+}
+
+/// The name of the row at a place.
+fn name_at(rows: &'static [ParameterRow], place: usize) -> Option<&'static [u8]> {
+    match rows.get(place) {
+        Some(row) => Some(row.name),
+        None => None,
+    }
 }
 
 /// The answer to an offered format by one of ours, or that there is none.
@@ -136,6 +146,42 @@ impl SdpEndpoint {
                 Ok(SdpEndpoint::H266(answer_of(config, offered, ours)?))
             }
             _ => Err(NO_ANSWER),
+        }
+    }
+
+    /// The first rule that they break as a format of one's own, if they break one.
+    pub fn own_fault(&self, config: AnswerConfig) -> Option<FormatFault> {
+        match self {
+            SdpEndpoint::H264(it) => own_fault(config, it.parameters()),
+            SdpEndpoint::H265(it) => own_fault(config, it.parameters()),
+            SdpEndpoint::H266(it) => own_fault(config, it.parameters()),
+        }
+    }
+
+    /// The name of the parameter at a place of the table.
+    pub fn name(&self, place: usize) -> Option<&'static [u8]> {
+        match self {
+            SdpEndpoint::H264(_) => name_at(H264Parameter::rows(), place),
+            SdpEndpoint::H265(_) => name_at(H265Parameter::rows(), place),
+            SdpEndpoint::H266(_) => name_at(H266Parameter::rows(), place),
+        }
+    }
+
+    /// The same with a value of the parameter with a name, without regard to case.
+    pub fn with_value(&self, name: &[u8], value: &[u8]) -> Result<Self, u32> {
+        match self {
+            SdpEndpoint::H264(it) => Ok(SdpEndpoint::H264(it.with_named_value(name, value)?)),
+            SdpEndpoint::H265(it) => Ok(SdpEndpoint::H265(it.with_named_value(name, value)?)),
+            SdpEndpoint::H266(it) => Ok(SdpEndpoint::H266(it.with_named_value(name, value)?)),
+        }
+    }
+
+    /// The same without a value of the parameter with a name, without regard to case.
+    pub fn without_value(&self, name: &[u8]) -> Result<Self, u32> {
+        match self {
+            SdpEndpoint::H264(it) => Ok(SdpEndpoint::H264(it.without_named_value(name)?)),
+            SdpEndpoint::H265(it) => Ok(SdpEndpoint::H265(it.without_named_value(name)?)),
+            SdpEndpoint::H266(it) => Ok(SdpEndpoint::H266(it.without_named_value(name)?)),
         }
     }
 

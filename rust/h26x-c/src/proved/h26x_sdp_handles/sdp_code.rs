@@ -2,10 +2,11 @@
 
 //! What the calls on SDP answer, as numbers.
 
+use crate::proved::h26x_answers::FormatFault;
 use crate::proved::h26x_codec::Codec;
 use crate::proved::h26x_codes::code::OUT_OF_MEMORY;
 use crate::proved::h26x_fmtp::{Encoding, Fault, ParametersError, RtpMapError, UnitsError};
-use crate::proved::h26x_sdp::{CapabilityPointsError, ConstraintsError};
+use crate::proved::h26x_sdp::{CapabilityPointsError, ConstraintsError, RtxError};
 use crate::proved::h26x_stream_parameters::StreamError;
 
 /// A brace of the text isn't closed.
@@ -25,6 +26,9 @@ pub const NO_ANSWER: u32 = 37;
 
 /// What should be a payload type is no number of 7 bits.
 pub const PAYLOAD_TYPE: u32 = 38;
+
+/// The text would be read as more than a value.
+pub const NOT_A_VALUE: u32 = 49;
 
 /// A code, and the place that it is of; 0 where it is of none.
 #[derive(Debug, Clone, Copy, PartialEq, Eq)]
@@ -57,7 +61,7 @@ pub fn point_refused_with(code: u32) -> PointRefused {
 }
 
 /// The code of a parameter's fault.
-fn code_of_fault(fault: Fault) -> u32 {
+pub fn code_of_fault(fault: Fault) -> u32 {
     match fault {
         Fault::NotANumber => 21,
         Fault::OutOfRange => 22,
@@ -120,6 +124,31 @@ pub fn of_stream(error: StreamError) -> u32 {
         StreamError::ShortParameterSet => 34,
         StreamError::NoProfile => 35,
         StreamError::OutOfMemory => OUT_OF_MEMORY,
+    }
+}
+
+/// Why a text is no format of retransmission.
+pub fn of_rtx(error: RtxError) -> Refused {
+    match error {
+        RtxError::Parameters(error) => of_parameters(error),
+        RtxError::NoPayloadType => refused_with(63),
+        RtxError::OutOfMemory => refused_with(OUT_OF_MEMORY),
+    }
+}
+
+/// The rule that a format breaks, and the place in the table of the parameter that it is of.
+pub fn of_format_fault(fault: FormatFault) -> Refused {
+    match fault {
+        FormatFault::Profile => refused_with(64),
+        FormatFault::Level => refused_with(65),
+        FormatFault::HighestLevel => refused_with(66),
+        FormatFault::BelowLevel { place } => Refused { code: 67, place },
+        FormatFault::Reordering => refused_with(68),
+        FormatFault::OutOfOrder => refused_with(69),
+        FormatFault::AboveLevel { place } => Refused { code: 70, place },
+        FormatFault::AspectRatios => refused_with(71),
+        FormatFault::InBandSets => refused_with(72),
+        FormatFault::HashTypes => refused_with(73),
     }
 }
 
