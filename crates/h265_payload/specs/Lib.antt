@@ -9,3 +9,5 @@ pub mod LowestHeader
 pub mod ShownParts
 pub mod EveryUnit
 pub mod EveryFacts
+pub mod Sending
+pub mod SendingFacts

@@ -1,11 +1,11 @@
 //! H.265 where every unit goes: an aggregate has the header of its units (RFC 7798, 4.4.2).
 
-ghost use Rattle.std.specs.Prelude.{◌≡◌, ◌≤◌};
+ghost use Rattle.std.specs.Prelude.{◌≡◌, ◌≤◌, ◌∷◌, []};
 ghost use Rattle.std.specs.List.{list_any};
 ghost use Rattle.h26x_packetizer.specs.Group.{lent_units};
-ghost use Rattle.h265_payload.specs.LowestHeader.{has_forbidden_bit, lowest_layer, lowest_temporal};
+ghost use Rattle.h265_payload.specs.LowestHeader.{has_forbidden_bit, lowest_layer, lowest_temporal, lowest_high, lowest_low};
 
-use crate::codec::{H265, header_of};
+use crate::codec::{H265Sending, header_of};
 use crate::lowest_header::Lowest;
 use h26x_core::h265_types::{AGGREGATION_PACKET, PACI_PACKET, VPS_NUT};
 use h26x_packetizer::EveryFormat;
@@ -25,27 +25,36 @@ fn lowest_of(units: &[&[u8]]) -> Lowest
     lowest
 }
 
-impl EveryFormat for H265 {
+/// The header of an aggregate of units, by them.
+pub(crate) fn lowest_header_of(units: &[&[u8]]) -> [u8; 2]
+    ensures { result
+        ≡ lowest_high (lent_units units.now) ∷ lowest_low (lent_units units.now) ∷ [] }
+{
+    let (high, low) = lowest_of(units).header();
+    [high, low]
+}
+
+impl EveryFormat for H265Sending {
     ghost use Rattle.h265_payload.specs.EveryUnit.{own_aggregate, units_start, is_slice};
     ghost use Rattle.h265_payload.specs.EveryFacts.{fits_every, every_numbers, every_by_sum};
     ghost use Rattle.h26x_payload.specs.Sets.{sets_gap};
     ghost use Rattle.std.specs.Prelude.{◌+◌, length};
     ghost use Rattle.std.proofs.Common.{arith};
 
-    ghost aggregate = { λ codec. own_aggregate codec.has_donl };
+    ghost aggregate = { λ it. own_aggregate it.codec.has_donl };
 
-    ghost start = { λ codec. units_start codec.has_donl };
+    ghost start = { λ it. units_start it.codec.has_donl };
 
-    ghost each = { λ codec. 2 + length (sets_gap codec.has_donl) };
+    ghost each = { λ it. 2 + length (sets_gap it.codec.has_donl) };
 
-    ghost is_slice = { λ codec. is_slice };
+    ghost is_slice = { λ it. is_slice };
 
     fn units_start(self) -> usize {
-        if self.has_donl { 3 } else { 2 }
+        if self.codec.has_donl { 3 } else { 2 }
     }
 
     fn unit_start(self) -> usize {
-        if self.has_donl { 3 } else { 2 }
+        if self.codec.has_donl { 3 } else { 2 }
     }
 
     fn is_slice(self, unit: &[u8]) -> bool {
@@ -56,8 +65,7 @@ impl EveryFormat for H265 {
     }
 
     fn own_header(self, units: &[&[u8]]) -> [u8; 2] {
-        let (high, low) = lowest_of(units).header();
-        [high, low]
+        lowest_header_of(units)
     }
 
     fn has_own_header(self, unit: &[u8]) -> bool {
@@ -68,11 +76,11 @@ impl EveryFormat for H265 {
         nalu_type < AGGREGATION_PACKET || nalu_type > PACI_PACKET
     }
 
-    ghost fits_every = { λ codec. fits_every codec.has_donl };
+    ghost fits_every = { λ it. fits_every it.codec.has_donl };
 
-    ghost dons_every = { λ codec. every_numbers codec.has_donl };
+    ghost dons_every = { λ it. every_numbers it.codec.has_donl };
 
-    ghost by_sum = { λ codec. every_by_sum codec.has_donl };
+    ghost by_sum = { λ it. every_by_sum it.codec.has_donl };
 
-    ghost some_each = { λ codec. omega arith };
+    ghost some_each = { λ it. omega arith };
 }

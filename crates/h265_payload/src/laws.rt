@@ -18,6 +18,7 @@ ghost use Rattle.h265_payload.specs.Reading.{IsReading};
 ghost use Rattle.h265_payload.specs.EveryUnit.{h265_every, AreHeadedByUnits};
 ghost use Rattle.h265_payload.specs.Shown.{shown, shown_paci_of};
 ghost use Rattle.h265_payload.specs.ShownParts.{IsShownAsRead};
+ghost use Rattle.h265_payload.specs.Sending.{h265_headed, TakesHeadedAlike};
 ghost use Rattle.h265_payload.specs.LowestHeader.{IsHeadedByUnits, IsReadAlike, IsDetectedAlike, CallsAreTakenAlike};
 ghost use Rattle.h265_packets.specs.Paci.{paci_fields, paci_packet};
 ghost use Rattle.h265_packets.specs.declared.payload.H265Payload.TheVariants as p;
@@ -94,6 +95,15 @@ pub fn lowest_headers_change_no_reading()
     ensures taken { (has_donl : Bool) (s : PacketizerState) (w : Depacketization)
         (calls : List Call) → s.format ≡ h265 has_donl → w.state.format ≡ h265 has_donl →
         IsPacketizerState s → CallsAreTakenAlike has_donl s w calls }
+{}
+
+/// With either header on sets that share a packet the format meets those facts, and a depacketizer
+/// takes packets alike.
+pub fn either_header_is_of_the_format()
+    ensures facts { (has_donl lowest_header : Bool) →
+        IsPayloadFormat (h265_headed has_donl lowest_header) }
+    ensures taken { (has_donl lowest_header : Bool) (w : Depacketization)
+        (packets : List (List ℕ)) → TakesHeadedAlike has_donl lowest_header w packets }
 {}
 
 /// Where every unit goes, the format meets the facts on which the laws of every unit stand; a unit

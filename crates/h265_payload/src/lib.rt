@@ -25,11 +25,12 @@ pub mod laws;
 mod lowest_header;
 mod packet;
 mod packetizer;
+mod sending;
 mod show;
 mod shows;
 mod spare;
 
-pub use codec::H265;
+pub use codec::{H265, H265Sending};
 pub use depacketizer::H265Depacketizer;
 pub use detect::detect_h265_keyframe;
 pub use h26x_core::ANNEXB_NALUSTART_CODE;

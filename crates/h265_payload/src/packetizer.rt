@@ -4,7 +4,7 @@
 ghost use Rattle.std.specs.Prelude.{◌≡◌, ◌<◌};
 ghost use Rattle.h265_payload.specs.H265.{with_type_and_f};
 
-use crate::codec::{H265, header_of};
+use crate::codec::{H265, H265Sending, header_of};
 use h26x_core::h265_types::{
     AGGREGATION_PACKET, AUD_NUT, FRAGMENTATION_UNIT, PPS_NUT, SPS_NUT, VPS_NUT,
 };
@@ -33,7 +33,7 @@ use h265_packets::header::high_byte;
 ///     send(packet);
 /// }
 /// ```
-pub type H265Packetizer = PayloadPacketizer<H265>;
+pub type H265Packetizer = PayloadPacketizer<H265Sending>;
 
 /// The first byte of this unit's header with another type: F and the layer's highest bit are kept.
 fn with_type(high: u8, nalu_type: u8) -> u8

@@ -1,12 +1,13 @@
 -- How many bytes wait, where a packet comes and where one goes.
-use Rattle.std.proofs.Common.{◌≡◌, ◌∙◌, ap, subst, ℕ, zero, suc, ◌+◌, ◌-◌, ◌<◌, true, false, cond, List, [], ◌∷◌, length, Option, Some, slice_index_or, refl, arith}
+use Rattle.std.proofs.Common.{◌≡◌, ◌∙◌, ap, subst, ℕ, zero, suc, ◌+◌, ◌-◌, ◌<◌, ◌≤◌, ◌^◌, max, Bool, true, false, cond, List, [], ◌∷◌, length, Option, Some, slice_index_or, refl, arith}
 use Rattle.std.specs.Prelude.{◌==◌, ◌||◌, ◌&&◌, nat_lt, nat_le}
 use Rattle.std.proofs.lemmas.Bool.Decides.{nat_tests}
+use Rattle.std.proofs.Math.Nat.{le-max_right}
 use Rattle.h26x_core.specs.Sequence.{distance_ahead, is_late}
 use Rattle.h26x_reorder.specs.Rtp.{RtpBody, rtp_body}
-use Rattle.h26x_reorder.specs.ReorderBuffer.{BufferState, buffer_state, newest_of, due_at, put_packet, is_number_held, push_answer, after_push, AreHeldInOrder, IsHeldInOrder}
+use Rattle.h26x_reorder.specs.ReorderBuffer.{BufferState, buffer_state, newest_of, due_at, put_packet, is_number_held, push_answer, after_push, AreHeldInOrder, IsHeldInOrder, is_ahead_of}
 use Rattle.h26x_reorder.specs.declared.pushed.Pushed.TheVariants as pushes
-use Rattle.h26x_access_units.specs.JitterBuffer.{held_bytes, is_outside, far_back, is_far}
+use Rattle.h26x_access_units.specs.JitterBuffer.{held_bytes, is_outside, far_back, is_far, reach, is_ahead}
 
 -- a packet whose number is not held adds its bytes
 pub put_bytes : (due : ℕ) (p : ℕ × RtpBody) (held : List (ℕ × RtpBody)) → is_number_held p.0 held ≡ false →
@@ -78,3 +79,33 @@ near_not_far far behind b due number is order number_is near =
       | true ↦ refl
       | false ↦ no
     ]
+
+-- what is false with another is false
+and_false : (a : Bool) → (a && false) ≡ false
+and_false true = refl
+and_false false = refl
+
+-- nor is it ahead of all by more than those may reach
+near_not_beyond : (most due newest number : ℕ) → due < 65536 → newest < 65536 → number < 65536 → distance_ahead due number ≤ most →
+    (is_ahead_of due newest number && nat_lt most (distance_ahead newest number)) ≡ false
+near_not_beyond most due newest number due_small newest_is number_is near =
+    elim (nat_lt (distance_ahead due newest) (distance_ahead due number)) as (λ b. nat_lt (distance_ahead due newest) (distance_ahead due number) ≡ b → ((b && nat_lt (distance_ahead due number) (2 ^ 15)) && nat_lt most (distance_ahead newest number)) ≡ false) [
+      | true ↦ λ e.
+          let beyond : distance_ahead due newest < distance_ahead due number = grind (arith, nat_tests) in
+          let less : distance_ahead newest number ≤ most = omega (arith, beyond, near, due_small, newest_is, number_is) in
+          let no : nat_lt most (distance_ahead newest number) ≡ false = grind (arith, nat_tests) in
+          rw no (and_false (nat_lt (distance_ahead due number) (2 ^ 15)))
+      | false ↦ λ e. refl
+    ] refl
+
+pub near_not_ahead : (b : BufferState RtpBody) (due number : ℕ) → b.due ≡ Some due → IsHeldInOrder b.due b.held → number < 65536 → distance_ahead due number ≤ reach b.window → is_ahead b number ≡ false
+near_not_ahead b due number is order number_is near =
+    let at : IsHeldInOrder (Some due) b.held = subst (λ (d : Option ℕ). IsHeldInOrder d b.held) is order in
+    ap (λ (d : Option ℕ). is_ahead (buffer_state b.window d b.held) number) is
+    ∙ near_not_beyond (reach b.window) due (newest_of due b.held) number at.0 (newest_small due b.held at.0 at.1) number_is near
+
+-- 100 numbers are within reach, whatever the window
+pub near_reach : (window n : ℕ) → n ≤ 100 → n ≤ reach window
+near_reach window n near =
+    let most : 100 ≤ max window 100 = le-max_right window 100 in
+    omega (arith, near, most)

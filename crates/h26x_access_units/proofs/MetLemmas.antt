@@ -16,9 +16,9 @@ use Rattle.h26x_access_units.specs.Numbers.{bears_nothing}
 use Rattle.h26x_access_units.specs.JitterBuffer.{JitterState, fresh_jitter, with_held_limit, may_tell_first, is_pressed, jitter_answer, after_jitter, with_packet, with_two, has_room_for}
 use Rattle.h26x_access_units.specs.Reception.{Reception, fresh_reception, begun_reception, has_no_unit, is_one_taken, is_taken_at_once, pushed_to, anew_of, held_with, after_reception, is_behind_missing, IsDueTaken, IsEndedBefore, ended_behind_missing, ended_by_content, bare_passed, without_bare_of, without_bare, IsDrained, none, bare, more, behind, ended_if_anew, ended_if_over, after_finish, without_given_of}
 use Rattle.h26x_access_units.specs.Account.{ReceiverCall, PushCall, BackCall, NextCall, LackCall, FinishCall, RestartCall, SettingsCall, BeginCall, IsCall, AreReceiverCalls, no_call, one_call, kept_packets}
-use Rattle.h26x_access_units.specs.WholeSent.{told_numbers, since_restart, IsSentAt, CameFromSender}
-use Rattle.h26x_access_units.specs.ToldWhole.{Deed, TookPacket, PassedPacket, EndedBefore, EndedStream, ToldFirst, DroppedAll, packet_deed, drained_deeds, stream_deeds, push_deeds, call_deeds, all_deeds, is_stream_new, are_told_first, IsInTime, due_taken, due_passed, AreOfSender, none_done, took_packet, passed_packet, ended_before_packet, ended_its_stream, told_its_first, dropped_before}
-use Rattle.h26x_access_units.proofs.AccountLemmas.{first_is_due}
+use Rattle.h26x_access_units.specs.WholeSent.{told_numbers, since_restart, IsSentAt, IsFrontNumber, CameFromSender}
+use Rattle.h26x_access_units.specs.ToldWhole.{Deed, TookPacket, PassedPacket, EndedBefore, EndedStream, ToldFirst, DroppedAll, packet_deed, drained_deeds, stream_deeds, push_deeds, call_deeds, all_deeds, is_stream_new, are_told_first, IsInTime, due_taken, due_passed, AreOfSenderBy, AreOfSender, IsFrontDue, AreOfSenderAtFronts, none_done, took_packet, passed_packet, ended_before_packet, ended_its_stream, told_its_first, dropped_before}
+use Rattle.h26x_access_units.proofs.MovesLemmas.{first_is_due}
 
 abbrev Packet : Type 0
 Packet = ℕ × RtpBody
@@ -26,7 +26,7 @@ Packet = ℕ × RtpBody
 abbrev Packets : Type 0
 Packets = List (ℕ × RtpBody)
 
-module _ (P : ℕ × RtpBody → Type 0) where
+module _ (P : ℕ × RtpBody → Type 0) (Q : ℕ → Type 0) where
   abbrev All : Packets → Type 0
   All [] = Unit {0}
   All (p ∷ packets) = P p × All packets
@@ -93,12 +93,13 @@ module _ (P : ℕ × RtpBody → Type 0) where
     held : All s.waiting.buffer.held
     alone : Alone s.stray
 
-  -- each packet that was met since all was dropped
+  -- each packet that was met, and each number that was told, since all was dropped
   abbrev AllMet : List Deed → Type 0
   AllMet [] = Unit {0}
   AllMet (TookPacket p ∷ ds) = P p × AllMet ds
   AllMet (PassedPacket p ∷ ds) = P p × AllMet ds
   AllMet (EndedBefore p ∷ ds) = P p × AllMet ds
+  AllMet (ToldFirst number ∷ ds) = Q number × AllMet ds
   AllMet (DroppedAll ∷ ds) = Unit {0}
   AllMet (deed ∷ ds) = AllMet ds
 
@@ -193,8 +194,13 @@ module _ (P : ℕ × RtpBody → Type 0) where
   push_met ds now s new true it met waits = let due = due_met now s new it waits in (deed_met it.packet it.answer ds due.0 met, due.1)
   push_met ds now s new false same met waits = (met, subst Waiting (sym same) waits)
 
-  call_met : (ds : List Deed) (calls : List ReceiverCall) (call : ReceiverCall) (s new : Reception) (it : IsCall call s new) → ((q : Packet) → Contains (kept_packets (since_restart (call ∷ calls))) q → P q) → AllMet ds → Waiting s → AllMet (call_deeds call s new it ++ ds) × Waiting new
-  call_met ds calls (PushCall now p answer) s new it each met waits = push_met ds now (after_reception now s p answer) new (is_taken_at_once s p) it.3 met (aside_waits now s p answer calls each waits)
+  -- so it is of the packets that were kept by calls, and of the numbers that they told
+  record Each (calls : List ReceiverCall) : Type 0 where
+    packets : (q : Packet) → Contains (kept_packets (since_restart calls)) q → P q
+    numbers : (number : ℕ) → Contains (told_numbers (since_restart calls)) number → Q number
+
+  call_met : (ds : List Deed) (calls : List ReceiverCall) (call : ReceiverCall) (s new : Reception) (it : IsCall call s new) → Each (call ∷ calls) → AllMet ds → Waiting s → AllMet (call_deeds call s new it ++ ds) × Waiting new
+  call_met ds calls (PushCall now p answer) s new it each met waits = push_met ds now (after_reception now s p answer) new (is_taken_at_once s p) it.3 met (aside_waits now s p answer calls each.packets waits)
   call_met ds calls (BackCall p reason) s new it each met waits = (met, subst Waiting (sym it.1) (record { held = waits.held; alone = waits.alone }))
   call_met ds calls (NextCall now one) s new it each met waits =
       let over = stream_deeds it.drained it.drained.waiting.is_over in
@@ -216,13 +222,13 @@ module _ (P : ℕ × RtpBody → Type 0) where
   call_met ds calls RestartCall s new it each met waits = (tt, subst Waiting (sym it) (record { held = tt; alone = tt }))
   call_met ds calls (SettingsCall config) s new it each met waits = (met, subst Waiting (sym it) (record { held = waits.held; alone = waits.alone }))
   call_met ds calls (BeginCall number) s new it each met waits = (
-    elim (may_tell_first s.waiting) as (λ c. AllMet ((if c then ToldFirst number ∷ [] else []) ++ ds)) [ true ↦ met | false ↦ met ],
+    elim (may_tell_first s.waiting) as (λ c. AllMet ((if c then ToldFirst number ∷ [] else []) ++ ds)) [ true ↦ (each.numbers number (zero, omega arith, refl), met) | false ↦ met ],
     subst Waiting (sym it.1) (begun_waits number s waits),
   )
 
   -- what is known of the calls before
   abbrev Before : List ReceiverCall → List Deed → Reception → Type 0
-  Before calls ds s = ((q : Packet) → Contains (kept_packets (since_restart calls)) q → P q) → AllMet ds × Waiting s
+  Before calls ds s = Each calls → AllMet ds × Waiting s
 
   calls_met : (config : AccessUnitConfig) (state : DepacketizerState) (calls : List ReceiverCall) (s : Reception) (are : AreReceiverCalls (fresh_reception config state) calls s) → Before calls (all_deeds are) s
   calls_met config state calls s no_call each = (tt, record { held = tt; alone = tt })
@@ -231,24 +237,24 @@ module _ (P : ℕ × RtpBody → Type 0) where
       ds : List Deed
       ds = all_deeds others
 
-      with_rest : (call : ReceiverCall) (it : IsCall call t s) → ((q : Packet) → Contains (kept_packets (since_restart (call ∷ before))) q → P q) → ((q : Packet) → Contains (kept_packets (since_restart before)) q → P q) → Before before ds t → AllMet (call_deeds call t s it ++ ds) × Waiting s
+      with_rest : (call : ReceiverCall) (it : IsCall call t s) → Each (call ∷ before) → Each before → Before before ds t → AllMet (call_deeds call t s it ++ ds) × Waiting s
       with_rest call it each rest met = let both = met rest in call_met ds before call t s it each both.0 both.1
 
-      by : (call : ReceiverCall) (it : IsCall call t s) → ((q : Packet) → Contains (kept_packets (since_restart (call ∷ before))) q → P q) → Before before ds t → AllMet (call_deeds call t s it ++ ds) × Waiting s
-      by (PushCall now p pushes.Held) it each met = with_rest (PushCall now p pushes.Held) it each (λ q (k, within, same). each q (suc k, omega (arith, within), same)) met
-      by (PushCall now p pushes.Stray) it each met = with_rest (PushCall now p pushes.Stray) it each (λ q (k, within, same). each q (suc k, omega (arith, within), same)) met
-      by (PushCall now p pushes.Jumped) it each met = with_rest (PushCall now p pushes.Jumped) it each (λ q (k, within, same). each q (suc k, omega (arith, within), same)) met
-      by (PushCall now p pushes.Anew) it each met = with_rest (PushCall now p pushes.Anew) it each (λ q (k, within, same). each q (suc k, omega (arith, within), same)) met
-      by (PushCall now p (pushes.Late n)) it each met = with_rest (PushCall now p (pushes.Late n)) it each each met
-      by (PushCall now p pushes.Twice) it each met = with_rest (PushCall now p pushes.Twice) it each each met
-      by (PushCall now p pushes.Full) it each met = with_rest (PushCall now p pushes.Full) it each each met
-      by (BackCall p reason) it each met = with_rest (BackCall p reason) it each each met
-      by (NextCall now one) it each met = with_rest (NextCall now one) it each each met
-      by (LackCall now) it each met = with_rest (LackCall now) it each each met
-      by FinishCall it each met = with_rest FinishCall it each each met
+      by : (call : ReceiverCall) (it : IsCall call t s) → Each (call ∷ before) → Before before ds t → AllMet (call_deeds call t s it ++ ds) × Waiting s
+      by (PushCall now p pushes.Held) it each met = with_rest (PushCall now p pushes.Held) it each (record { packets = λ q (k, within, same). each.packets q (suc k, omega (arith, within), same); numbers = each.numbers }) met
+      by (PushCall now p pushes.Stray) it each met = with_rest (PushCall now p pushes.Stray) it each (record { packets = λ q (k, within, same). each.packets q (suc k, omega (arith, within), same); numbers = each.numbers }) met
+      by (PushCall now p pushes.Jumped) it each met = with_rest (PushCall now p pushes.Jumped) it each (record { packets = λ q (k, within, same). each.packets q (suc k, omega (arith, within), same); numbers = each.numbers }) met
+      by (PushCall now p pushes.Anew) it each met = with_rest (PushCall now p pushes.Anew) it each (record { packets = λ q (k, within, same). each.packets q (suc k, omega (arith, within), same); numbers = each.numbers }) met
+      by (PushCall now p (pushes.Late n)) it each met = with_rest (PushCall now p (pushes.Late n)) it each (record { packets = each.packets; numbers = each.numbers }) met
+      by (PushCall now p pushes.Twice) it each met = with_rest (PushCall now p pushes.Twice) it each (record { packets = each.packets; numbers = each.numbers }) met
+      by (PushCall now p pushes.Full) it each met = with_rest (PushCall now p pushes.Full) it each (record { packets = each.packets; numbers = each.numbers }) met
+      by (BackCall p reason) it each met = with_rest (BackCall p reason) it each (record { packets = each.packets; numbers = each.numbers }) met
+      by (NextCall now one) it each met = with_rest (NextCall now one) it each (record { packets = each.packets; numbers = each.numbers }) met
+      by (LackCall now) it each met = with_rest (LackCall now) it each (record { packets = each.packets; numbers = each.numbers }) met
+      by FinishCall it each met = with_rest FinishCall it each (record { packets = each.packets; numbers = each.numbers }) met
       by RestartCall it each met = (tt, subst Waiting (sym it) (record { held = tt; alone = tt }))
-      by (SettingsCall config) it each met = with_rest (SettingsCall config) it each each met
-      by (BeginCall number) it each met = with_rest (BeginCall number) it each each met
+      by (SettingsCall config) it each met = with_rest (SettingsCall config) it each (record { packets = each.packets; numbers = each.numbers }) met
+      by (BeginCall number) it each met = with_rest (BeginCall number) it each (record { packets = each.packets; numbers = λ m (k, within, is). each.numbers m (suc k, omega (arith, within), is) }) met
 
 both_are : (x y : Bool) → (x && y) ≡ true → (x ≡ true) × (y ≡ true)
 both_are true y e = (refl, e)
@@ -259,7 +265,7 @@ abbrev IsWithinHalf : Option ℕ → Type 0
 IsWithinHalf None = Unit {0}
 IsWithinHalf (Some due) = due ≤ 32768
 
-module _ (sent : List RtpBody) (first : ℕ) (few : length sent ≤ 32768) where
+module _ (sent : List RtpBody) (first : ℕ) (few : length sent ≤ 32768) (Known : ℕ → Type 0) (Told : ℕ → Option ℕ → Type 0) (tells : (number : ℕ) → Known number → (due : Option ℕ) × IsWithinHalf due × Told number due) where
   in_time_half : (due : Option ℕ) (at : ℕ) → at < length sent → IsWithinHalf due → IsInTime due at
   in_time_half None at lt half = tt
   in_time_half (Some due) at lt half = (omega (arith, lt, few), omega (arith, half))
@@ -273,9 +279,9 @@ module _ (sent : List RtpBody) (first : ℕ) (few : length sent ≤ 32768) where
   passed_half (Some due) at lt half = taken_half (Some due) at lt half
 
   abbrev OfSender : List Deed → Type 0
-  OfSender ds = (due : Option ℕ) × IsWithinHalf due × AreOfSender sent first due ds
+  OfSender ds = (due : Option ℕ) × IsWithinHalf due × AreOfSenderBy Told sent first due ds
 
-  new_none : (due : Option ℕ) (ds : List Deed) → is_stream_new ds ≡ true → AreOfSender sent first due ds → AreOfSender sent first None ds
+  new_none : (due : Option ℕ) (ds : List Deed) → is_stream_new ds ≡ true → AreOfSenderBy Told sent first due ds → AreOfSenderBy Told sent first None ds
   new_none due [] e none_done = none_done
   new_none due (EndedStream ∷ ds) e (ended_its_stream of) = ended_its_stream of
   new_none due (DroppedAll ∷ ds) e (dropped_before before) = dropped_before before
@@ -285,7 +291,7 @@ module _ (sent : List RtpBody) (first : ℕ) (few : length sent ≤ 32768) where
   new_none due (ToldFirst number ∷ ds) e of = absurd (let bad = e in cc)
 
   -- where numbers were told only of streams that begin
-  of_sender : (ds : List Deed) → AllMet (IsSentAt sent first) ds → are_told_first ds ≡ true → OfSender ds
+  of_sender : (ds : List Deed) → AllMet (IsSentAt sent first) Known ds → are_told_first ds ≡ true → OfSender ds
   of_sender [] met told = (None, tt, none_done)
   of_sender (TookPacket p ∷ ds) met told =
       let (due, half, of) = of_sender ds met.1 told in
@@ -301,13 +307,25 @@ module _ (sent : List RtpBody) (first : ℕ) (few : length sent ≤ 32768) where
       (None, tt, ended_before_packet p at (in_time_half due at.place at.within half) of)
   of_sender (ToldFirst number ∷ ds) met told =
       let both = both_are (is_stream_new ds) (are_told_first ds) told in
-      let (due, half, of) = of_sender ds met both.1 in
-      (None, tt, told_its_first number both.0 (new_none due ds both.0 of))
+      let (due, half, of) = of_sender ds met.1 both.1 in
+      let (place, near, is_told) = tells number met.0 in
+      (place, near, told_its_first number is_told both.0 (new_none due ds both.0 of))
   of_sender (EndedStream ∷ ds) met told = let (due, half, of) = of_sender ds met told in (None, tt, ended_its_stream of)
   of_sender (DroppedAll ∷ ds) met told = (None, tt, dropped_before ds)
 
+-- what is done is of the sender, where numbers are told only of streams that begin
 pub done_of_sender : (config : AccessUnitConfig) (state : DepacketizerState) (calls : List ReceiverCall) (s : Reception) (sent : List RtpBody) (first : ℕ) (are : AreReceiverCalls (fresh_reception config state) calls s) →
     CameFromSender (told_numbers (since_restart calls)) (kept_packets (since_restart calls)) state sent first → are_told_first (all_deeds are) ≡ true → (due : Option ℕ) × AreOfSender sent first due (all_deeds are)
 done_of_sender config state calls s sent first are came told =
-    let (due, half, of) = of_sender sent first came.few (all_deeds are) (calls_met (IsSentAt sent first) config state calls s are came.packets).0 told in
+    let met = calls_met (IsSentAt sent first) (λ number. Unit {0}) config state calls s are (record { packets = came.packets; numbers = λ number is. tt }) in
+    let (due, half, of) = of_sender sent first came.few (λ number. Unit {0}) (λ number place. place ≡ None) (λ number is. (None, tt, refl)) (all_deeds are) met.0 told in
+    (due, of)
+
+-- and each number that is told is due, and that of a front
+pub done_at_fronts : (config : AccessUnitConfig) (state : DepacketizerState) (calls : List ReceiverCall) (s : Reception) (sent : List RtpBody) (first : ℕ) (are : AreReceiverCalls (fresh_reception config state) calls s) →
+    CameFromSender (told_numbers (since_restart calls)) (kept_packets (since_restart calls)) state sent first → are_told_first (all_deeds are) ≡ true → (due : Option ℕ) × AreOfSenderAtFronts sent first due (all_deeds are)
+done_at_fronts config state calls s sent first are came told =
+    let few = came.few in
+    let met = calls_met (IsSentAt sent first) (IsFrontNumber sent first) config state calls s are (record { packets = came.packets; numbers = came.fronts }) in
+    let (due, half, of) = of_sender sent first came.few (IsFrontNumber sent first) (IsFrontDue sent first) (λ number front. let within = front.within in (Some front.place, omega (arith, within, few), record { front = front; due_is = refl })) (all_deeds are) met.0 told in
     (due, of)

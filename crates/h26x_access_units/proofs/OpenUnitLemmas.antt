@@ -1,7 +1,7 @@
 -- What a receiver has of an access unit that was sent, while it takes its packets one behind the other.
-use Rattle.std.proofs.Common.{◌≡◌, ◌∙◌, ap, sym, subst, refl, ℕ, ◌+◌, ◌<◌, Bool, true, false, cond, List, [], ◌∷◌, ◌++◌, length, take, drop, Option, Some, None, arith, inl, inr}
-use Rattle.std.specs.Prelude.{◌==◌, ◌||◌, ◌&&◌, nat_lt, ◌⊎◌, if◌then◌else◌, not, map}
-use Rattle.std.proofs.lemmas.List.{map-append, append-nil}
+use Rattle.std.proofs.Common.{◌≡◌, ◌∙◌, ap, sym, subst, refl, ℕ, ◌+◌, ◌<◌, Bool, true, false, cond, List, [], ◌∷◌, ◌++◌, length, Option, Some, None, arith, inl, inr}
+use Rattle.std.specs.Prelude.{◌==◌, ◌||◌, ◌&&◌, nat_lt, ◌⊎◌, if◌then◌else◌, not}
+use Rattle.std.proofs.lemmas.List.{append-nil}
 use Rattle.std.proofs.lemmas.Bool.Decides.{nat_tests}
 use Rattle.h26x_core.specs.Sequence.{distance_ahead, is_late, missing_count}
 use Rattle.h26x_core.specs.declared.extra.CodecExtra.{CodecExtra}
@@ -27,9 +27,11 @@ use Rattle.h26x_access_units.specs.Framing.{believes, framing_marked}
 use Rattle.h26x_access_units.specs.Reception.{begun_for, expected_for, marker_forgotten, framing_of, believed, ends_before}
 use Rattle.h26x_access_units.specs.WholeSent.{bears_slice, nothing_written, sent_at, sent_number, sent_payloads, IsSentAt, IsSender}
 use Rattle.h26x_access_units.specs.ToldWhole.{IsInTime, due_taken, Deed, TookPacket, sent_text, IsUnitSent, IsBegunSo, behind_packet, as_first_told, by_front, by_first_front, is_stream_new, ToldFirst, AreOfSender, told_its_first}
-use Rattle.h26x_access_units.proofs.WholeSentLemmas.{same_number, left_true, kind_with}
-use Rattle.h26x_access_units.proofs.SentLemmas.{one_more, next_place}
-use Rattle.h26x_access_units.proofs.SteadyLemmas.{SameStamp, own_same, unit_stamp, Steady, in_turn, not_closed, text_is, took_steady, new_closed}
+use Rattle.h26x_access_units.proofs.PieceLemmas.{same_number, left_true}
+use Rattle.h26x_access_units.proofs.WholeSentLemmas.{kind_with}
+use Rattle.h26x_access_units.proofs.SentLemmas.{payloads_more, next_place}
+use Rattle.h26x_access_units.proofs.EndedLemmas.{SameStamp}
+use Rattle.h26x_access_units.proofs.SteadyLemmas.{own_same, unit_stamp, Steady, in_turn, not_closed, text_is, took_steady, new_closed}
 
 abbrev Packet : Type 0
 Packet = ℕ × RtpBody
@@ -105,12 +107,9 @@ module _ (state : DepacketizerState) (sent : List RtpBody) (first : ℕ) (sender
   within_sent : (k : ℕ) → k < count → place + k < length sent
   within_sent k lt = let most = unit.within in omega (arith, lt, most)
 
-  payloads_more : (m : ℕ) → m < count → sent_payloads sent place (m + 1) ≡ sent_payloads sent place m ++ (sent_at sent (place + m)).payload ∷ []
-  payloads_more m lt = ap (map (λ p. p.payload)) (one_more sent place m (m + 1) (place + m) refl refl (within_sent m lt)) ∙ map-append (λ p. p.payload) (take m (drop place sent)) (sent_at sent (place + m) ∷ [])
-
   -- what is written with a packet more
   w_next : (k : ℕ) → k < count → w (k + 1) ≡ after_packets (w k) ((sent_at sent (place + k)).payload ∷ [])
-  w_next k lt = ap (after_packets (nothing_written state)) (payloads_more k lt) ∙ sym (goes.more (sent_payloads sent place k) ((sent_at sent (place + k)).payload ∷ []))
+  w_next k lt = ap (after_packets (nothing_written state)) (payloads_more sent place k (within_sent k lt)) ∙ sym (goes.more (sent_payloads sent place k) ((sent_at sent (place + k)).payload ∷ []))
 
   w_none : w 0 ≡ nothing_written state
   w_none = goes.none
@@ -387,7 +386,7 @@ module _ (state : DepacketizerState) (sent : List RtpBody) (first : ℕ) (sender
 
   -- a number is told of a stream that begins
   told_new : (due : Option ℕ) (number : ℕ) (ds : List Deed) → AreOfSender sent first due (ToldFirst number ∷ ds) → is_stream_new ds ≡ true
-  told_new due number ds (told_its_first n is_new of) = is_new
+  told_new due number ds (told_its_first n told is_new of) = is_new
 
   -- before its first packet no access unit of its timestamp is open
   other_open : (due : Option ℕ) (ds : List Deed) (a : Assembly) (f : Framing) (n : NumbersSoFar) (d : DecoderState) → Steady state sent first sender due ds a f n d → AreOfSender sent first due ds → IsBegunSo state sent first place (w count) ds → is_unit_at a.unit ts ≡ true → ⊥

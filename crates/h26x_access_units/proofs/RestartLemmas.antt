@@ -1,5 +1,5 @@
 -- What a receiver does since it was restarted it does as a new one.
-use Rattle.std.proofs.Common.{◌≡◌, sym, subst, refl, ℕ, Bool, true, List, [], ◌∷◌, Option, Some}
+use Rattle.std.proofs.Common.{◌≡◌, sym, subst, refl, ℕ, true, List, [], ◌∷◌, Option, Some}
 use Rattle.h26x_model.specs.Carry.Laws.{DepacketizerGoesOn}
 use Rattle.h26x_model.specs.Receive.DepacketizerState.{DepacketizerState}
 use Rattle.h26x_model.specs.Receive.RunLimit.{state_with_run}
@@ -8,7 +8,7 @@ use Rattle.h26x_access_units.specs.declared.config.AccessUnitConfig.{AccessUnitC
 use Rattle.h26x_access_units.specs.declared.counts.Counts.{Counts}
 use Rattle.h26x_access_units.specs.Counts.{no_counts}
 use Rattle.h26x_access_units.specs.ReceivedAccessUnit.{ReceivedAccessUnitValue}
-use Rattle.h26x_access_units.specs.Reception.{Reception, fresh_reception, restarted}
+use Rattle.h26x_access_units.specs.Reception.{Reception, fresh_reception}
 use Rattle.h26x_access_units.specs.Account.{ReceiverCall, PushCall, BackCall, NextCall, LackCall, FinishCall, RestartCall, SettingsCall, BeginCall, IsCall, AreReceiverCalls, no_call, one_call, kept_packets}
 use Rattle.h26x_access_units.specs.WholeSent.{told_numbers, since_restart, nothing_written, CameFromSender, WasSent}
 use Rattle.h26x_access_units.proofs.AccountLemmas.{as_new, begun_told_whole, calls_kind}

@@ -26,7 +26,7 @@ abbrev Packets : Type 0
 Packets = List (ℕ × RtpBody)
 
 -- with the packet behind them
-pub one_more : (xs : List RtpBody) (i m n k : ℕ) → n ≡ m + 1 → k ≡ i + m → k < length xs → take n (drop i xs) ≡ take m (drop i xs) ++ sent_at xs k ∷ []
+one_more : (xs : List RtpBody) (i m n k : ℕ) → n ≡ m + 1 → k ≡ i + m → k < length xs → take n (drop i xs) ≡ take m (drop i xs) ++ sent_at xs k ∷ []
 one_more [] i m n k n_is k_is lt = absurd (omega (arith, lt))
 one_more (x ∷ xs) zero zero n k n_is k_is lt =
     let one : n ≡ 1 = omega (arith, n_is) in
@@ -37,6 +37,10 @@ one_more (x ∷ xs) zero (suc m) (suc n) zero n_is k_is lt = absurd (omega (arit
 one_more (x ∷ xs) zero (suc m) (suc n) (suc k) n_is k_is lt = ap (λ (l : List RtpBody). x ∷ l) (one_more xs zero m n k (omega (arith, n_is)) (omega (arith, k_is)) (omega (arith, lt)))
 one_more (x ∷ xs) (suc i) m n zero n_is k_is lt = absurd (omega (arith, k_is))
 one_more (x ∷ xs) (suc i) m n (suc k) n_is k_is lt = one_more xs i m n k n_is (omega (arith, k_is)) (omega (arith, lt))
+
+-- the payloads with that of the packet behind them
+pub payloads_more : (sent : List RtpBody) (i m : ℕ) → i + m < length sent → sent_payloads sent i (m + 1) ≡ sent_payloads sent i m ++ (sent_at sent (i + m)).payload ∷ []
+payloads_more sent i m lt = ap (map (λ p. p.payload)) (one_more sent i m (m + 1) (i + m) refl refl lt) ∙ map-append (λ p. p.payload) (take m (drop i sent)) (sent_at sent (i + m) ∷ [])
 
 pub place_same : (first i j : ℕ) → i < 65536 → j < 65536 → sent_number first i ≡ sent_number first j → i ≡ j
 place_same first i j small_i small_j e = omega (arith, small_i, small_j, e)
@@ -86,9 +90,6 @@ module _ (r : DepacketizerState) (told : List ℕ) (kept : Packets) (sent : List
     text : w ≡ after_packets (nothing_written r) (sent_payloads sent place count)
     newest : (p : Packet) (rest : Packets) → own ≡ p ∷ rest → (k : ℕ) → count ≡ k + 1 → p.1 ≡ sent_at sent (place + k)
 
-  payloads_more : (i m : ℕ) → i + m < length sent → sent_payloads sent i (m + 1) ≡ sent_payloads sent i m ++ (sent_at sent (i + m)).payload ∷ []
-  payloads_more i m lt = ap (map (λ p. p.payload)) (one_more sent i m (m + 1) (i + m) refl refl lt) ∙ map-append (λ p. p.payload) (take m (drop i sent)) (sent_at sent (i + m) ∷ [])
-
   same_head : (p q : Packet) (a b : Packets) → p ∷ a ≡ q ∷ b → p ≡ q
   same_head p q a b e = cc
 
@@ -106,7 +107,7 @@ module _ (r : DepacketizerState) (told : List ℕ) (kept : Packets) (sent : List
         front_body = at.body;
         due_is = ap next_sequence_number at.number ∙ next_place first at.place;
         stamps = λ k lt. let zero_is : at.place + k ≡ at.place = omega (arith, lt) in subst (λ (x : ℕ). (sent_at sent x).timestamp ≡ timestamp) (sym zero_is) (subst (λ (b : RtpBody). b.timestamp ≡ timestamp) at.body stamp);
-        text = ap (λ (x : List ℕ). after_packets (nothing_written r) (x ∷ [])) (ap (λ (b : RtpBody). b.payload) body) ∙ ap (after_packets (nothing_written r)) (sym (payloads_more at.place 0 lt));
+        text = ap (λ (x : List ℕ). after_packets (nothing_written r) (x ∷ [])) (ap (λ (b : RtpBody). b.payload) body) ∙ ap (after_packets (nothing_written r)) (sym (payloads_more sent at.place 0 lt));
         newest = λ p rest e k is. let zero_is : at.place + k ≡ at.place = omega (arith, is) in subst (λ (x : ℕ). p.1 ≡ sent_at sent x) (sym zero_is) (subst (λ (q : Packet). q.1 ≡ sent_at sent at.place) (same_head front p [] rest e) at.body);
       }
   own_run timestamp front back due own w (next_one {own = rest} {w = v} p packets stamp text) each =
@@ -130,7 +131,7 @@ module _ (r : DepacketizerState) (told : List ℕ) (kept : Packets) (sent : List
             ap (λ (x : Depacketization). after_packets x (p.1.payload ∷ [])) before.text
             ∙ goes.more (sent_payloads sent before.place before.count) (p.1.payload ∷ [])
             ∙ ap (λ (x : List ℕ). after_packets (nothing_written r) (sent_payloads sent before.place before.count ++ x ∷ [])) (ap (λ (b : RtpBody). b.payload) body)
-            ∙ ap (after_packets (nothing_written r)) (sym (payloads_more before.place before.count lt));
+            ∙ ap (after_packets (nothing_written r)) (sym (payloads_more sent before.place before.count lt));
         newest = λ q others e k is. let k_is : before.count ≡ k = omega (arith, is) in subst (λ (x : ℕ). q.1 ≡ sent_at sent (before.place + x)) k_is (subst (λ (y : Packet). y.1 ≡ sent_at sent (before.place + before.count)) (same_head p q rest others e) body);
       }
     where

@@ -24,7 +24,9 @@ use Rattle.h26x_access_units.specs.Decoder.{fresh_decoder}
 use Rattle.h26x_access_units.specs.Reception.{IsAnswerTo, assembly_after, is_no_unit, begun_for, expected_for, marker_forgotten, framing_of, believed, framing_answered, numbers_answered, ends_before, is_behind_missing}
 use Rattle.h26x_access_units.specs.WholeSent.{reads_no_unit, has_no_text, begins_unit, bears_slice, sent_at, sent_number, IsSentAt, IsSender}
 use Rattle.h26x_access_units.specs.ToldWhole.{IsInTime, due_taken, due_passed, Deed, TookPacket, PassedPacket, EndedBefore, EndedStream, ToldFirst, DroppedAll, packet_deed, is_stream_new, took_none, open_stamp}
-use Rattle.h26x_access_units.proofs.WholeSentLemmas.{told_is, same_number, left_true, refused_bare, answered_so, kind_with, broken_at, content_ends}
+use Rattle.h26x_access_units.proofs.EndedLemmas.{SameStamp}
+use Rattle.h26x_access_units.proofs.PieceLemmas.{told_is, one_missing, same_number, left_true, broken_at}
+use Rattle.h26x_access_units.proofs.WholeSentLemmas.{refused_bare, answered_so, kind_with, content_ends}
 use Rattle.h26x_access_units.proofs.SentLemmas.{next_place}
 
 abbrev Packet : Type 0
@@ -35,13 +37,6 @@ answer_of x = Ok x
 
 abbrev refusal : PacketError → Result Received PacketError
 refusal error = Err error
-
--- the access unit that is open and its numbers go together
-abbrev pub SameStamp : Option AccessUnitValue → Option AccessUnitNumbers → Type 0
-SameStamp None None = Unit {0}
-SameStamp (Some u) (Some k) = u.timestamp ≡ k.timestamp
-SameStamp None (Some k) = ⊥
-SameStamp (Some u) None = ⊥
 
 -- what the last deed left
 abbrev pub IsLast : List Deed → Assembly → NumbersSoFar → Type 0
@@ -152,7 +147,7 @@ module _ (state : DepacketizerState) (sent : List RtpBody) (first : ℕ) (sender
   expected_place x p e e_is = ap (λ (y : Option ℕ). expected_for y p) e_is
 
   -- the place that is due then
-  taken_due : (due : Option ℕ) (e : Option ℕ) (p : Packet) (place : ℕ) → IsDuePlace due e → p.0 ≡ sent_number first place → IsInTime due place → is_late (expected_for e p) p.0 ≡ false → due_taken due place ≡ place + 1
+  pub taken_due : (due : Option ℕ) (e : Option ℕ) (p : Packet) (place : ℕ) → IsDuePlace due e → p.0 ≡ sent_number first place → IsInTime due place → is_late (expected_for e p) p.0 ≡ false → due_taken due place ≡ place + 1
   taken_due None e p place is number near timely = refl
   taken_due (Some x) e p place is number near timely =
       let below = not_below x place (on_time_place place x p (expected_for e p) (expected_place x p e is) number near timely) in
@@ -162,7 +157,7 @@ module _ (state : DepacketizerState) (sent : List RtpBody) (first : ℕ) (sender
   passed_due None e p place x due_is is number near timely = absurd (let bad = due_is in cc)
   passed_due (Some y) e p place x due_is is number near timely = ap Some (taken_due (Some y) e p place is number near timely)
 
-  late_due : (due : Option ℕ) (e : Option ℕ) (p : Packet) (place : ℕ) → IsDuePlace due e → p.0 ≡ sent_number first place → IsInTime due place → is_late (expected_for e p) p.0 ≡ true → due_passed due place ≡ due
+  pub late_due : (due : Option ℕ) (e : Option ℕ) (p : Packet) (place : ℕ) → IsDuePlace due e → p.0 ≡ sent_number first place → IsInTime due place → is_late (expected_for e p) p.0 ≡ true → due_passed due place ≡ due
   late_due None e p place is number near late = refl
   late_due (Some x) e p place is number near late =
       let below = is_below x place (late_place place x p (expected_for e p) (expected_place x p e is) number near late) in
@@ -202,7 +197,7 @@ module _ (state : DepacketizerState) (sent : List RtpBody) (first : ℕ) (sender
     pub due_ways : (P : Deed → Assembly → Framing → NumbersSoFar → Type 0) →
         (is_late b.expected p.0 ≡ false → P (TookPacket p) (marker_forgotten (with_unit_within limit (after_taken_rtp most b q))) (framing_marked g q.1.marker) (after_packet (numbers_still g.stands_still n) q (missing_count b.expected p.0))) →
         (is_late b.expected p.0 ≡ true → P (PassedPacket p) (marker_forgotten b) f n) →
-        (is_late b.expected p.0 ≡ false → (m : ℕ) → P (PassedPacket p) (marker_forgotten (record (behind_missing b p.0) { expected = Some (next_sequence_number p.0) })) f (after_gap n m)) →
+        (is_late b.expected p.0 ≡ false → (m : ℕ) → P (PassedPacket p) (marker_forgotten (record (behind_missing b p.0) { expected = Some (next_sequence_number p.0) })) f (after_gap n (m + 1))) →
         (answer : Result Received PacketError) → IsAnswerTo most b q answer → (answer ≡ Err OutOfMemory → ⊥) →
         P (packet_deed p answer) (marker_forgotten (assembly_after most limit b q answer)) (framing_answered f g q answer) (numbers_answered b n g q answer)
     due_ways P took late refused answer answered room = by answer (subst (λ (c : Bool). MatchBool c (answer ≡ answer_of (skip_answer b.expected p.0)) (IsAssemblyAnswer most b q answer)) (text_is p at) answered) room
@@ -243,7 +238,7 @@ module _ (state : DepacketizerState) (sent : List RtpBody) (first : ℕ) (sender
                 let bare = refused_bare state [] [] a.state.is_avc (with_run_if (is_expected b.expected p.0) work.at_work).state.run (a.state.format.read p.1.payload) (a.state.format.extra false) p.1.payload error so.0 none in
                 let reads : reads_no_unit (state.format.extra false) p.1.payload (state.format.read p.1.payload) ≡ true = subst (λ (r : DepacketizerState). reads_no_unit (r.format.extra false) p.1.payload (r.format.read p.1.payload) ≡ true) kind bare in
                 let bad = sym (has_text p at) ∙ either_true (bears_nothing p.1.payload) _ reads in cc)
-            | false ↦ λ some. rw (some, e) (refused e _)
+            | false ↦ λ some. rw (some, e) (subst (λ (m : ℕ). P (PassedPacket p) (marker_forgotten (record (behind_missing b p.0) { expected = Some (next_sequence_number p.0) })) f (after_gap n m)) (sym (one_missing (missing_count b.expected p.0))) (refused e (missing_count b.expected p.0)))
           ] refl
         ] refl
 
@@ -581,8 +576,8 @@ module _ (state : DepacketizerState) (sent : List RtpBody) (first : ℕ) (sender
   new_closed (ToldFirst number ∷ ds) e = absurd (let bad = e in cc)
 
   -- the number of the first is told
-  pub told_steady : (ds : List Deed) (a : Assembly) (f : Framing) (n : NumbersSoFar) (d : DecoderState) (number : ℕ) → is_stream_new ds ≡ true → Steady None ds a f n d → Steady None (ToldFirst number ∷ ds) (record a { expected = Some number }) f (begun_numbers_at n) d
-  told_steady ds a f n d number new it =
+  pub told_steady : (due : Option ℕ) (ds : List Deed) (a : Assembly) (f : Framing) (n : NumbersSoFar) (d : DecoderState) (number : ℕ) → IsDuePlace due (Some number) → is_stream_new ds ≡ true → Steady None ds a f n d → Steady due (ToldFirst number ∷ ds) (record a { expected = Some number }) f (begun_numbers_at n) d
+  told_steady due ds a f n d number is_due new it =
       let begins = new_last ds a n new it.last in
       record {
         kind = it.kind;
@@ -595,7 +590,7 @@ module _ (state : DepacketizerState) (sent : List RtpBody) (first : ℕ) (sender
         marked = λ x e. ((it.marked x e).0, λ g. absurd (let closed = (it.marked x e).1 g in let bad = sym begins.0 ∙ closed.expects in cc));
         slices = λ h x e. absurd (let slice = it.slices h x e in let bad = sym begins.0 ∙ slice.expects in cc);
         last = (refl, it.no_gap begins.0, refl, begins.1);
-        place = tt;
+        place = is_due;
         none = it.none;
       }
 

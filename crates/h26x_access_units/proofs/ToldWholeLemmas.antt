@@ -24,7 +24,8 @@ use Rattle.h26x_access_units.specs.ReceivedAccessUnit.{ReceivedAccessUnitValue, 
 use Rattle.h26x_access_units.specs.Reception.{begun_for, is_one_taken, marker_forgotten, framing_of, framing_answered, numbers_answered, believed, ends_before, IsAnswerTo, assembly_after}
 use Rattle.h26x_access_units.specs.WholeSent.{bears_slice, nothing_written, sent_at, sent_number, sent_payloads, IsSentAt, IsSender, IsWrittenOf}
 use Rattle.h26x_access_units.specs.ToldWhole.{IsInTime, due_taken, due_passed, Deed, TookPacket, PassedPacket, DroppedAll, packet_deed, took_place, took_places, sent_text, IsUnitSent, IsBegunSo, IsEndedSo, by_own_marker, by_next, AreOfSender, took_packet, passed_packet}
-use Rattle.h26x_access_units.proofs.SteadyLemmas.{SameStamp, Steady, due_ways, took_steady, late_steady, refused_steady, gone_steady}
+use Rattle.h26x_access_units.proofs.EndedLemmas.{SameStamp}
+use Rattle.h26x_access_units.proofs.SteadyLemmas.{Steady, due_ways, took_steady, late_steady, refused_steady, gone_steady}
 use Rattle.h26x_access_units.proofs.OpenUnitLemmas.{Good, Second, WaitsIn, Open, Short, After, Always, Tells, begin_on, next_on, next_ends}
 
 abbrev Packet : Type 0
@@ -308,7 +309,7 @@ module _ (state : DepacketizerState) (sent : List RtpBody) (first : ℕ) (sender
           due_ways state sent first sender a f n p most limit met.at (each met.due met.of).steady.kind (λ (deed : Deed) (new_a : Assembly) (new_f : Framing) (new_n : NumbersSoFar). AreOfSender sent first new (deed ∷ ds) → Both new (deed ∷ ds) given new_a new_f new_n d)
           (λ timely. took_each p new follows timely)
           (λ late. late_each p new late)
-          (λ timely m. refused_each p new timely m)
+          (λ timely m. refused_each p new timely (m + 1))
           answer answered room of
 
     -- the numbers of what is open, but for what is missing

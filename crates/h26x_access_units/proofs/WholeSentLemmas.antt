@@ -1,10 +1,10 @@
 -- Access units that are told to be whole have all the packets between where they began and ended.
-use Rattle.std.proofs.Common.{is_some, ◌≡◌, ◌∙◌, ap, sym, subst, refl, ℕ, ◌+◌, ◌<◌, Bool, true, false, cond, List, [], ◌∷◌, ◌++◌, length, Option, Some, None, arith, inl, inr, Result, Ok, Err}
+use Rattle.std.proofs.Common.{is_some, ◌≡◌, ◌∙◌, ap, sym, subst, refl, ℕ, ◌<◌, Bool, true, false, cond, List, [], ◌∷◌, ◌++◌, length, Option, Some, None, arith, inl, inr, Result, Ok, Err}
 use Rattle.std.specs.Prelude.{◌==◌, ◌||◌, ◌&&◌, nat_lt, MatchBool, ◌⊎◌, if◌then◌else◌, not, IfOk}
 use Rattle.std.specs.List.{Contains}
 use Rattle.std.specs.Option.{option_map}
 use Rattle.std.proofs.lemmas.Bool.Decides.{nat_tests}
-use Rattle.h26x_core.specs.Sequence.{next_sequence_number, distance_ahead, is_late, missing_count, distance_behind, is_expected}
+use Rattle.h26x_core.specs.Sequence.{next_sequence_number, is_late, missing_count, distance_behind, is_expected}
 use Rattle.h26x_core.specs.declared.error.PacketError.{PacketError}
 use Rattle.h26x_core.specs.declared.error.PacketError.TheVariants.{OutOfMemory, AvcUnitTooLong}
 use Rattle.h26x_core.specs.declared.extra.CodecExtra.{CodecExtra}
@@ -13,25 +13,26 @@ use Rattle.h26x_model.specs.Payload.Format.{Format}
 use Rattle.h26x_model.specs.Payload.Reading.{Reading, Single, Aggregate, Fragment, Paci, Refused}
 use Rattle.h26x_model.specs.Receive.Outcome.{IsReadingOutcome}
 use Rattle.h26x_model.specs.Receive.DepacketizerState.{DepacketizerState, Depacketization, depacketization, after_packets, IsPacketOutcome}
-use Rattle.h26x_model.specs.Receive.RunLimit.{run_len, state_with_run, with_open_run}
+use Rattle.h26x_model.specs.Receive.RunLimit.{run_len, state_with_run}
 use Rattle.h26x_receiver.specs.declared.received.Received.{Received}
 use Rattle.h26x_receiver.specs.declared.received.Received.TheVariants as received
-use Rattle.h26x_receiver.specs.Sequenced.{SequencedDepacketization, sequenced_depacketization, with_run_if, after_sequenced_packet, after_taken_packet, skip_answer, answer_by_missing, is_run_kept, expected_after_skip, is_taken, as_outcome, IsSequencedAnswer, taken_packet_answer}
+use Rattle.h26x_receiver.specs.Sequenced.{SequencedDepacketization, sequenced_depacketization, with_run_if, after_sequenced_packet, skip_answer, is_run_kept, expected_after_skip, is_taken, as_outcome, IsSequencedAnswer, taken_packet_answer}
 use Rattle.h26x_reorder.specs.Rtp.{RtpBody, rtp_body}
-use Rattle.h26x_assembler.specs.AccessUnit.{AccessUnitValue, Assembly, empty_unit, whole_if, without_text, is_unit_at, unit_at, taken_by, is_closed_at, follows, is_run_closed, is_sound, is_unit_broken, unit_with, unit_within, with_unit_within, given_out, ended_by, after_taken_rtp, behind_missing, after_unit_skip, after_pass_over, after_ending, after_finishing, after_rtp, IsAssemblyAnswer, open_assembly, none_open}
+use Rattle.h26x_assembler.specs.AccessUnit.{AccessUnitValue, Assembly, empty_unit, whole_if, without_text, is_unit_at, unit_at, taken_by, follows, is_run_closed, is_sound, unit_with, unit_within, with_unit_within, given_out, ended_by, after_taken_rtp, behind_missing, after_unit_skip, after_pass_over, after_ending, after_finishing, after_rtp, IsAssemblyAnswer, open_assembly, none_open}
 use Rattle.h26x_assembler.specs.StampedCalls.{IsOtherStamp}
-use Rattle.h26x_assembler.proofs.UnitLemmas.{short_run}
 use Rattle.h26x_access_units.specs.declared.numbers.AccessUnitNumbers.{AccessUnitNumbers}
 use Rattle.h26x_access_units.specs.declared.numbers.NumbersSoFar.{NumbersSoFar}
-use Rattle.h26x_access_units.specs.Numbers.{missing_told, missing_with, missing_up_to, missing_sum, is_timestamp, unit_numbers, numbers_to, numbers_ended, after_gap, after_packet, numbers_closed, numbers_still, numbers_taken, bears_nothing, fresh_numbers, after_missing, after_last, begun_numbers_at, first_ended, without_first_ended, numbers_carrying}
-use Rattle.h26x_access_units.specs.Reception.{expected_for, begun_for, marker_forgotten, ends_with, after_no_unit, IsAnswerTo, assembly_after, is_no_unit, framing_of, believed, numbers_answered, framing_answered, ends_before, is_behind_missing, is_in_reach, shown_of}
+use Rattle.h26x_access_units.specs.Numbers.{missing_told, missing_up_to, missing_sum, is_timestamp, unit_numbers, numbers_to, numbers_ended, after_gap, after_packet, numbers_closed, numbers_still, numbers_taken, bears_nothing, fresh_numbers, after_missing, after_last, begun_numbers_at, first_ended, without_first_ended, numbers_carrying}
+use Rattle.h26x_access_units.specs.Reception.{begun_for, marker_forgotten, ends_with, after_no_unit, IsAnswerTo, assembly_after, is_no_unit, framing_of, believed, numbers_answered, framing_answered, ends_before, is_behind_missing, is_in_reach, shown_of}
 use Rattle.h26x_access_units.specs.declared.framing.Framing.{Framing}
 use Rattle.h26x_access_units.specs.Framing.{believes, bears_no_unit, ends_by_content, trusts_markers, framing_marked}
 use Rattle.h26x_access_units.specs.declared.decoder.DecoderState.{DecoderState}
 use Rattle.h26x_access_units.specs.Decoder.{is_front}
 use Rattle.h26x_access_units.specs.Content.{content_of}
 use Rattle.h26x_access_units.specs.ReceivedAccessUnit.{received_unit, unit_content}
-use Rattle.h26x_access_units.specs.WholeSent.{reads_no_unit, has_no_text, begins_unit, nothing_written, ArePacketsOf, first_one, next_one, bare_one, IsRightBehind, behind_one, behind_bare, as_told, IsBegunInOrder, IsBegunByContent, IsOfWholePackets, IsUnitEnded, by_marker, by_timestamp, by_content, bears_slice, IsSliceBefore, slice_last, slice_earlier, IsNextBegun, IsClosedBefore}
+use Rattle.h26x_access_units.specs.WholeSent.{reads_no_unit, has_no_text, begins_unit, IsRightBehind, behind_one, as_told, IsBegunInOrder, IsBegunByContent, IsOfWholePackets, bears_slice, IsSliceBefore, slice_last, IsNextBegun, IsClosedBefore}
+use Rattle.h26x_access_units.proofs.PieceLemmas.{Begun, Behind, Core, EndedOne, OpenIs, Piece, PieceOf, SliceAt, content_ended, core_begun, core_ending, core_over, core_skip, expected_is, first_true, follows_at, last_stamp, left_true, marked_ended, next_ended, next_small, none_ahead, open_left, over_is, piece_at, piece_bare, piece_new, piece_on, right_true, same_number, slice_more, sound_at, sum_none, told_is, whole_ended, work_is, work_of, zero_at}
+use Rattle.h26x_access_units.proofs.EndedLemmas.{SameStamp, EndedAre, ended_more, none_ended}
 
 abbrev Packet : Type 0
 Packet = ℕ × RtpBody
@@ -39,472 +40,10 @@ Packet = ℕ × RtpBody
 abbrev Packets : Type 0
 Packets = List (ℕ × RtpBody)
 
--- a number that is the one expected
-pub expected_is : (expected : Option ℕ) (due number : ℕ) → expected ≡ Some due → is_expected expected number ≡ true → number ≡ due
-expected_is expected due number is at = let t : (number == due) ≡ true = subst (λ (e : Option ℕ). is_expected e number ≡ true) is at in grind (arith, nat_tests)
-
-none_true : (b : Bool) → (b && false) ≡ true → ⊥
-none_true true e = let bad = e in cc
-none_true false e = let bad = e in cc
-
-pub left_true : (a b : Bool) → (a && b) ≡ true → a ≡ true
-left_true true b e = refl
-left_true false b e = absurd (let bad = e in cc)
-
-pub right_true : (a b : Bool) → (a && b) ≡ true → b ≡ true
-right_true true b e = e
-right_true false b e = absurd (let bad = e in cc)
-
--- what an answer tells of numbers that are missing
-pub told_is : (m : ℕ) (long : Bool) → missing_told (answer_by_missing m long) ≡ m
-told_is m true = refl
-told_is m false = elim (m == 0) as (λ b. (m == 0) ≡ b → missing_told (cond b received.InOrder (received.Gap m)) ≡ m) [
-  | true ↦ λ e. grind (arith, nat_tests)
-  | false ↦ λ e. refl
-] refl
-
-one_missing : (m : ℕ) → missing_with (answer_by_missing m false) ≡ m + 1
-one_missing m = elim (m == 0) as (λ b. (m == 0) ≡ b → missing_with (cond b received.InOrder (received.Gap m)) ≡ m + 1) [
-  | true ↦ λ e. grind (arith, nat_tests)
-  | false ↦ λ e. refl
-] refl
-
-skip_told : (expected : Option ℕ) (number : ℕ) → is_late expected number ≡ false → missing_told (skip_answer expected number) ≡ missing_count expected number
-skip_told expected number timely = rw timely (told_is (missing_count expected number) false)
-
--- none is missing before the number that is due
-pub none_ahead : (due number : ℕ) → due < 65536 → number < 65536 → distance_ahead due number ≡ 0 → number ≡ due
-none_ahead due number small_due small e = omega (arith, small_due, small, e)
-
-pub next_small : (number : ℕ) → next_sequence_number number < 65536
-next_small number = omega arith
-
-pub same_number : (x y : ℕ) → (x == y) ≡ true → x ≡ y
-same_number x y e = grind (arith, nat_tests)
-
-first_true : (a b : Bool) → a ≡ true → (a || b) ≡ true
-first_true true b e = refl
-first_true false b e = absurd (let bad = e in cc)
-
-zero_at : (m : ℕ) → (m == 0) ≡ true → m ≡ 0
-zero_at m e = grind (arith, nat_tests)
-
-sum_none : (a b : ℕ) → missing_sum a b ≡ 0 → (a ≡ 0) × (b ≡ 0)
-sum_none a b e = (omega (arith, e), omega (arith, e))
-
 module _ (state : DepacketizerState) (kept : Packets) (told : List ℕ) where
-  -- where a marker or a number tells nothing else it begins in order
-  abbrev Begun : ℕ → Packet → Packets → Bool → Bool → Type 0
-  Begun timestamp front before continues follows = continues ≡ false → follows ≡ true → IsBegunInOrder told kept state.format timestamp front before
-
-  -- an access unit that is open, and unbroken so far
-  record Piece (handed : Packets) (r : DepacketizerState) (expected : Option ℕ) (timestamp : ℕ) (bytes : List ℕ) (extra : CodecExtra) (first last : ℕ) (continues follows : Bool) : Type 0 where
-    front : Packet
-    back : Packet
-    due : ℕ
-    own : Packets
-    before : Packets
-    place : handed ≡ own ++ before
-    packets : ArePacketsOf state timestamp front back due own (depacketization r bytes extra)
-    expects : expected ≡ Some due
-    first_is : front.0 ≡ first
-    last_is : back.0 ≡ last
-    begun : Begun timestamp front before continues follows
-
-  -- with another number expected
-  piece_expecting : (handed : Packets) (r : DepacketizerState) (expected new : Option ℕ) (timestamp : ℕ) (bytes : List ℕ) (extra : CodecExtra) (first last : ℕ) (continues follows : Bool) →
-      (it : Piece handed r expected timestamp bytes extra first last continues follows) → new ≡ Some it.due → Piece handed r new timestamp bytes extra first last continues follows
-  piece_expecting handed r expected new timestamp bytes extra first last continues follows it is = record {
-    front = it.front;
-    back = it.back;
-    due = it.due;
-    own = it.own;
-    before = it.before;
-    place = it.place;
-    packets = it.packets;
-    expects = is;
-    first_is = it.first_is;
-    last_is = it.last_is;
-    begun = it.begun;
-  }
-
-  -- a packet more that bears nothing
-  piece_bare : (handed : Packets) (r : DepacketizerState) (expected : Option ℕ) (timestamp : ℕ) (bytes : List ℕ) (extra : CodecExtra) (first last : ℕ) (continues follows : Bool) (p : Packet) →
-      is_expected expected p.0 ≡ true → has_no_text state.format p.1.payload ≡ true → Piece handed r expected timestamp bytes extra first last continues follows →
-      Piece (p ∷ handed) r (Some (next_sequence_number p.0)) timestamp bytes extra first last continues follows
-  piece_bare handed r expected timestamp bytes extra first last continues follows p at bare it =
-      let same = expected_is expected it.due p.0 it.expects at in
-      record {
-        front = it.front;
-        back = it.back;
-        due = next_sequence_number p.0;
-        own = p ∷ it.own;
-        before = it.before;
-        place = ap (λ (x : Packets). p ∷ x) it.place;
-        packets = bare_one p (subst (λ (d : ℕ). ArePacketsOf state timestamp it.front it.back d it.own (depacketization r bytes extra)) (sym same) it.packets) bare;
-        expects = refl;
-        first_is = it.first_is;
-        last_is = it.last_is;
-        begun = it.begun;
-      }
-
-  -- a packet more of the access unit
-  piece_on : (handed : Packets) (r : DepacketizerState) (expected : Option ℕ) (timestamp : ℕ) (bytes : List ℕ) (extra : CodecExtra) (first last : ℕ) (continues follows : Bool) (p : Packet) →
-      is_expected expected p.0 ≡ true → p.1.timestamp ≡ timestamp → has_no_text state.format p.1.payload ≡ false → Piece handed r expected timestamp bytes extra first last continues follows →
-      let w = after_packets (depacketization r bytes extra) (p.1.payload ∷ []) in Piece (p ∷ handed) w.state (Some (next_sequence_number p.0)) timestamp w.out w.extra first p.0 continues follows
-  piece_on handed r expected timestamp bytes extra first last continues follows p at stamp text it =
-      let same = expected_is expected it.due p.0 it.expects at in
-      record {
-        front = it.front;
-        back = p;
-        due = next_sequence_number p.0;
-        own = p ∷ it.own;
-        before = it.before;
-        place = ap (λ (x : Packets). p ∷ x) it.place;
-        packets = next_one p (subst (λ (d : ℕ). ArePacketsOf state timestamp it.front it.back d it.own (depacketization r bytes extra)) (sym same) it.packets) stamp text;
-        expects = refl;
-        first_is = it.first_is;
-        last_is = refl;
-        begun = it.begun;
-      }
-
-  -- the first packet of one
-  piece_new : (handed : Packets) (p : Packet) (continues follows : Bool) → has_no_text state.format p.1.payload ≡ false → Begun p.1.timestamp p handed continues follows →
-      let w = after_packets (nothing_written state) (p.1.payload ∷ []) in Piece (p ∷ handed) w.state (Some (next_sequence_number p.0)) p.1.timestamp w.out w.extra p.0 p.0 continues follows
-  piece_new handed p continues follows text begun = record {
-    front = p;
-    back = p;
-    due = next_sequence_number p.0;
-    own = p ∷ [];
-    before = handed;
-    place = refl;
-    packets = first_one refl text;
-    expects = refl;
-    first_is = refl;
-    last_is = refl;
-    begun = begun;
-  }
-
-  -- one that ended
-  record Part (handed : Packets) (timestamp : ℕ) (bytes : List ℕ) (extra : CodecExtra) (first last : ℕ) (continues follows : Bool) : Type 0 where
-    front : Packet
-    back : Packet
-    due : ℕ
-    own : Packets
-    before : Packets
-    later : Packets
-    written : Depacketization
-    place : handed ≡ later ++ (own ++ before)
-    packets : ArePacketsOf state timestamp front back due own written
-    bytes_are : written.out ≡ bytes
-    extra_is : written.extra ≡ extra
-    closed : is_run_closed written.state.run ≡ true
-    first_is : front.0 ≡ first
-    last_is : back.0 ≡ last
-    begun : Begun timestamp front before continues follows
-    ended : IsUnitEnded kept state.format timestamp due own before
-
-  part_of : (handed later : Packets) (r : DepacketizerState) (expected : Option ℕ) (timestamp : ℕ) (bytes : List ℕ) (extra : CodecExtra) (first last : ℕ) (continues follows : Bool) →
-      (it : Piece handed r expected timestamp bytes extra first last continues follows) → is_run_closed r.run ≡ true → IsUnitEnded kept state.format timestamp it.due it.own it.before → Part (later ++ handed) timestamp bytes extra first last continues follows
-  part_of handed later r expected timestamp bytes extra first last continues follows it closed ended = record {
-    front = it.front;
-    back = it.back;
-    due = it.due;
-    own = it.own;
-    before = it.before;
-    later = later;
-    written = depacketization r bytes extra;
-    place = ap (λ (x : Packets). later ++ x) it.place;
-    packets = it.packets;
-    bytes_are = refl;
-    extra_is = refl;
-    closed = closed;
-    first_is = it.first_is;
-    last_is = it.last_is;
-    begun = it.begun;
-    ended = ended;
-  }
-
-  same_front : (p q : Packet) (a b : Packets) → p ∷ a ≡ q ∷ b → p ≡ q
-  same_front p q a b e = cc
-
-  ended_marked : (p : Packet) (timestamp due : ℕ) (q : Packet) (rest before : Packets) → p ≡ q → p.1.marker ≡ true → p.1.timestamp ≡ timestamp → IsUnitEnded kept state.format timestamp due (q ∷ rest) before
-  ended_marked p timestamp due q rest before same marker stamp =
-      subst (λ (x : Packet). IsUnitEnded kept state.format timestamp due (x ∷ rest) before) same (by_marker due p rest before marker stamp)
-
-  -- where the last packet bears the marker
-  marked_end : (p : Packet) (handed before : Packets) (timestamp : ℕ) (front back : Packet) (due : ℕ) (own : Packets) (w : Depacketization) → ArePacketsOf state timestamp front back due own w → p ∷ handed ≡ own ++ before →
-      p.1.marker ≡ true → p.1.timestamp ≡ timestamp → IsUnitEnded kept state.format timestamp due own before
-  marked_end p handed before timestamp front back due own w (first_one a b) place marker stamp = ended_marked p timestamp _ front [] before (same_front p front handed before place) marker stamp
-  marked_end p handed before timestamp front back due own w (next_one {own = rest} q packets a b) place marker stamp = ended_marked p timestamp _ q rest before (same_front p q handed (rest ++ before) place) marker stamp
-  marked_end p handed before timestamp front back due own w (bare_one {own = rest} q packets a) place marker stamp = ended_marked p timestamp _ q rest before (same_front p q handed (rest ++ before) place) marker stamp
-
-  -- the access unit that is open and its numbers go together
-  abbrev SameStamp : Option AccessUnitValue → Option AccessUnitNumbers → Type 0
-  SameStamp None None = Unit {0}
-  SameStamp (Some u) (Some k) = u.timestamp ≡ k.timestamp
-  SameStamp None (Some k) = ⊥
-  SameStamp (Some u) None = ⊥
-
-  abbrev OpenIs : Packets → DepacketizerState → Option ℕ → Option AccessUnitValue → Option AccessUnitNumbers → Type 0
-  OpenIs handed r expected None k = Unit {0}
-  OpenIs handed r expected (Some u) None = Unit {0}
-  OpenIs handed r expected (Some u) (Some k) = u.is_whole ≡ true → Piece handed r expected u.timestamp u.bytes u.extra k.first k.last k.continues k.follows
-
-  -- the timestamp of the last packet that was taken
-  abbrev last_stamp : Option AccessUnitNumbers → Option ℕ → Option ℕ
-  last_stamp None marked = marked
-  last_stamp (Some k) marked = Some k.timestamp
-
-  -- the packet that was taken last is right before the one that is expected; where the access unit that
-  -- was open is closed it is known by what
-  record Behind (handed : Packets) (expected stamp_now : Option ℕ) (is_closed : Bool) : Type 0 where
-    due : ℕ
-    stamp : Option ℕ
-    right : IsRightBehind told state.format due stamp handed
-    expects : expected ≡ Some due
-    stamp_is : (stamp ≡ None) ⊎ (stamp ≡ stamp_now)
-    small : due < 65536
-    closing : is_closed ≡ true → (x : ℕ) → stamp ≡ Some x → IsClosedBefore kept state.format x due handed
-
-  -- a slice of this timestamp came before the packet that is expected
-  record SliceAt (handed : Packets) (expected : Option ℕ) (timestamp : ℕ) : Type 0 where
-    due : ℕ
-    expects : expected ≡ Some due
-    slice : IsSliceBefore state.format timestamp due handed
-
-  -- of the access unit that is open, where it has a slice, and of what comes next, where all is known by
-  -- which the one before is closed
-  record Core (handed : Packets) (a : Assembly) (n : NumbersSoFar) (has_slice is_known : Bool) : Type 0 where
-    opened : OpenIs handed a.state a.expected a.unit n.unit
-    behind : n.has_begun ≡ true → n.skipped_gap ≡ 0 → Behind handed a.expected (last_stamp n.unit n.marked) (is_known && not (is_some n.unit))
-    slices : has_slice ≡ true → (timestamp : ℕ) → is_unit_at a.unit timestamp ≡ true → SliceAt handed a.expected timestamp
-
-  for_due : (p : Packet) (expected : Option ℕ) (due : ℕ) → expected ≡ Some due → expected_for expected p ≡ Some due
-  for_due p expected due is = subst (λ (e : Option ℕ). expected_for e p ≡ Some due) (sym is) refl
-
-  open_expecting : (handed : Packets) (r : DepacketizerState) (p : Packet) (e : Option ℕ) (u : Option AccessUnitValue) (k : Option AccessUnitNumbers) → OpenIs handed r e u k → OpenIs handed r (expected_for e p) u k
-  open_expecting handed r p e None k opened = tt
-  open_expecting handed r p e (Some u) None opened = tt
-  open_expecting handed r p e (Some u) (Some k) opened = λ whole.
-      let it = opened whole in
-      piece_expecting handed r e (expected_for e p) u.timestamp u.bytes u.extra k.first k.last k.continues k.follows it (for_due p e it.due it.expects)
-
-  -- where a packet tells the number that is expected
-  core_begun : (handed : Packets) (a : Assembly) (n : NumbersSoFar) (has_slice is_known : Bool) (p : Packet) → Core handed a n has_slice is_known → Core handed (begun_for a p) n has_slice is_known
-  core_begun handed a n has_slice is_known p core = record {
-    opened = open_expecting handed a.state p a.expected a.unit n.unit core.opened;
-    behind = λ b g.
-        let it = core.behind b g in
-        record { due = it.due; stamp = it.stamp; right = it.right; expects = for_due p a.expected it.due it.expects; stamp_is = it.stamp_is; small = it.small; closing = it.closing };
-    slices = λ sl timestamp at. let it = core.slices sl timestamp at in record { due = it.due; expects = for_due p a.expected it.due it.expects; slice = it.slice };
-  }
-
-  open_broken : (handed : Packets) (r : DepacketizerState) (e : Option ℕ) (u : Option AccessUnitValue) (k : Option AccessUnitNumbers) → OpenIs handed r e (option_map (whole_if false) u) k
-  open_broken handed r e None k = tt
-  open_broken handed r e (Some u) None = tt
-  open_broken handed r e (Some u) (Some k) = λ whole. absurd (none_true u.is_whole whole)
-
-  open_bare : (handed : Packets) (r : DepacketizerState) (p : Packet) (e : Option ℕ) (u : Option AccessUnitValue) (k : Option AccessUnitNumbers) → is_expected e p.0 ≡ true → has_no_text state.format p.1.payload ≡ true →
-      OpenIs handed r e u k → OpenIs (p ∷ handed) r (Some (next_sequence_number p.0)) u k
-  open_bare handed r p e None k at bare opened = tt
-  open_bare handed r p e (Some u) None at bare opened = tt
-  open_bare handed r p e (Some u) (Some k) at bare opened = λ whole. piece_bare handed r e u.timestamp u.bytes u.extra k.first k.last k.continues k.follows p at bare (opened whole)
-
-  or_true : (a b : Bool) → b ≡ true → (a || b) ≡ true
-  or_true true b e = refl
-  or_true false b e = e
-
-  -- the next number is right behind a packet that bears nothing too
-  behind_more : (handed : Packets) (p : Packet) (expected stamp_now : Option ℕ) (is_closed now : Bool) → p.0 < 65536 → has_no_text state.format p.1.payload ≡ true → missing_count expected p.0 ≡ 0 → Behind handed expected stamp_now is_closed →
-      Behind (p ∷ handed) (Some (next_sequence_number p.0)) stamp_now now
-  behind_more handed p expected stamp_now is_closed now small bare none_is it =
-      let near : distance_ahead it.due p.0 ≡ 0 = subst (λ (e : Option ℕ). missing_count e p.0 ≡ 0) it.expects none_is in
-      let same = none_ahead it.due p.0 it.small small near in
-      record {
-        due = next_sequence_number p.0;
-        stamp = it.stamp;
-        right = behind_bare p (subst (λ (d : ℕ). IsRightBehind told state.format d it.stamp handed) (sym same) it.right) bare;
-        expects = refl;
-        stamp_is = it.stamp_is;
-        small = next_small p.0;
-        closing = λ c x is. inl (or_true p.1.marker (has_no_text state.format p.1.payload) bare);
-      }
-
-  ahead_of : (due number : ℕ) → is_late (Some due) number ≡ false → distance_ahead due number < 32768
-  ahead_of due number timely = grind (arith, nat_tests)
-
-  -- a slice came before a later one too
-  slice_more : (handed : Packets) (p : Packet) (expected : Option ℕ) (timestamp : ℕ) → is_late expected p.0 ≡ false → SliceAt handed expected timestamp → SliceAt (p ∷ handed) (Some (next_sequence_number p.0)) timestamp
-  slice_more handed p expected timestamp timely it = record {
-    due = next_sequence_number p.0;
-    expects = refl;
-    slice = slice_earlier p it.slice (ahead_of it.due p.0 (subst (λ (e : Option ℕ). is_late e p.0 ≡ false) it.expects timely));
-  }
-
-  pub broken_at : (u : Option AccessUnitValue) (timestamp : ℕ) → is_unit_at (option_map (whole_if false) u) timestamp ≡ is_unit_at u timestamp
-  broken_at None timestamp = refl
-  broken_at (Some u) timestamp = refl
-
-  skip_is : (a : Assembly) (number : ℕ) → is_late a.expected number ≡ false →
-      after_unit_skip a number ≡ cond (is_expected a.expected number) (record a { expected = Some (next_sequence_number number) }) (record (behind_missing a number) { expected = Some (next_sequence_number number) })
-  skip_is a number timely = rw timely refl
-
-  -- a number that bears nothing
-  core_skip : (handed : Packets) (a : Assembly) (n : NumbersSoFar) (has_slice is_known : Bool) (p : Packet) → p.0 < 65536 → is_late a.expected p.0 ≡ false → has_no_text state.format p.1.payload ≡ true → Core handed a n has_slice is_known →
-      Core (p ∷ handed) (marker_forgotten (after_unit_skip a p.0)) (after_gap n (missing_told (skip_answer a.expected p.0))) has_slice true
-  core_skip handed a n has_slice is_known p small timely bare core =
-      let next = Some (next_sequence_number p.0) in
-      let gap = after_gap n (missing_told (skip_answer a.expected p.0)) in
-      let right : n.has_begun ≡ true → gap.skipped_gap ≡ 0 → Behind (p ∷ handed) next (last_stamp n.unit n.marked) (true && not (is_some n.unit)) = λ b g.
-      let none_is = sum_none n.skipped_gap (missing_told (skip_answer a.expected p.0)) g in
-      behind_more handed p a.expected (last_stamp n.unit n.marked) (is_known && not (is_some n.unit)) (true && not (is_some n.unit)) small bare (sym (skip_told a.expected p.0 timely) ∙ none_is.1) (core.behind b none_is.0) in
-      subst (λ (x : Assembly). Core (p ∷ handed) (marker_forgotten x) gap has_slice true) (sym (skip_is a p.0 timely))
-      (elim (is_expected a.expected p.0) as (λ b. is_expected a.expected p.0 ≡ b → Core (p ∷ handed) (marker_forgotten (cond b (record a { expected = next }) (record (behind_missing a p.0) { expected = next }))) gap has_slice true) [
-        | true ↦ λ at. record { opened = open_bare handed a.state p a.expected a.unit n.unit at bare core.opened; behind = right; slices = λ sl timestamp is. slice_more handed p a.expected timestamp timely (core.slices sl timestamp is) }
-        | false ↦ λ at. record {
-          opened = open_broken (p ∷ handed) (state_with_run a.state None) next a.unit n.unit;
-          behind = right;
-          slices = λ sl timestamp is. slice_more handed p a.expected timestamp timely (core.slices sl timestamp (sym (broken_at a.unit timestamp) ∙ is));
-        }
-      ] refl)
-
-  over_is : (a : Assembly) (number : ℕ) → is_late a.expected number ≡ false → after_pass_over a number ≡ behind_missing a number
-  over_is a number timely = rw timely refl
-
-  not_none : (a b : ℕ) → missing_sum a (b + 1) ≡ 0 → ⊥
-  not_none a b e = omega (arith, e)
-
-  -- one that is refused is missing
-  core_over : (handed : Packets) (a : Assembly) (n : NumbersSoFar) (has_slice is_known : Bool) (p : Packet) → is_late a.expected p.0 ≡ false → Core handed a n has_slice is_known →
-      Core (p ∷ handed) (marker_forgotten (after_pass_over a p.0)) (after_gap n (missing_up_to a.expected p.0)) has_slice true
-  core_over handed a n has_slice is_known p timely core =
-      let missing : missing_up_to a.expected p.0 ≡ missing_count a.expected p.0 + 1 = rw timely (one_missing (missing_count a.expected p.0)) in
-      let next_is : expected_after_skip a.expected p.0 ≡ Some (next_sequence_number p.0) = rw timely refl in
-      subst (λ (x : Assembly). Core (p ∷ handed) (marker_forgotten x) (after_gap n (missing_up_to a.expected p.0)) has_slice true) (sym (over_is a p.0 timely)) (record {
-        opened = open_broken (p ∷ handed) (state_with_run a.state None) (expected_after_skip a.expected p.0) a.unit n.unit;
-        behind = λ b g. absurd (not_none n.skipped_gap (missing_count a.expected p.0) (subst (λ (m : ℕ). missing_sum n.skipped_gap m ≡ 0) missing g));
-        slices = λ sl timestamp is. subst (λ (e : Option ℕ). SliceAt (p ∷ handed) e timestamp) (sym next_is) (slice_more handed p a.expected timestamp timely (core.slices sl timestamp (sym (broken_at a.unit timestamp) ∙ is)));
-      })
-
-  closed_stamp : (u : Option AccessUnitValue) (k : Option AccessUnitNumbers) (marked : Option ℕ) (timestamp : ℕ) → SameStamp u k → is_unit_at u timestamp ≡ true → last_stamp k marked ≡ option_map (λ unit. unit.timestamp) k
-  closed_stamp None k marked timestamp same at = absurd (let bad = at in cc)
-  closed_stamp (Some u) None marked timestamp same at = absurd same
-  closed_stamp (Some u) (Some k) marked timestamp same at = refl
-
-  -- once the access unit that is open ended by itself
-  core_ending : (handed : Packets) (a : Assembly) (n : NumbersSoFar) (has_slice is_known now : Bool) (timestamp : ℕ) → SameStamp a.unit n.unit → is_unit_at a.unit timestamp ≡ true →
-      (now ≡ true → (due x : ℕ) → a.expected ≡ Some due → is_unit_at a.unit x ≡ true → IsClosedBefore kept state.format x due handed) → Core handed a n has_slice is_known → Core handed (after_ending a) (numbers_closed n) has_slice now
-  core_ending handed a n has_slice is_known now timestamp same at closed core = record {
-    opened = tt;
-    behind = λ b g.
-        let it = core.behind b g in
-        let stamp_is = subst (λ (s : Option ℕ). (it.stamp ≡ None) ⊎ (it.stamp ≡ s)) (closed_stamp a.unit n.unit n.marked timestamp same at) it.stamp_is in
-        record {
-          due = it.due;
-          stamp = it.stamp;
-          right = it.right;
-          expects = it.expects;
-          stamp_is = stamp_is;
-          small = it.small;
-          closing = λ c x is. closed (left_true now true c) it.due x it.expects (stamp_of a.unit n.unit it.stamp x same is stamp_is);
-        };
-    slices = λ sl t is. absurd (let bad = is in cc);
-  }
-    where
-      stamp_of : (u : Option AccessUnitValue) (k : Option AccessUnitNumbers) (stamp : Option ℕ) (x : ℕ) → SameStamp u k → stamp ≡ Some x → (stamp ≡ None) ⊎ (stamp ≡ option_map (λ unit. unit.timestamp) k) → is_unit_at u x ≡ true
-      stamp_of u k stamp x same is (inl e) = absurd (let bad = sym is ∙ e in cc)
-      stamp_of None None stamp x same is (inr e) = absurd (let bad = sym is ∙ e in cc)
-      stamp_of None (Some k) stamp x same is (inr e) = absurd same
-      stamp_of (Some u) None stamp x same is (inr e) = absurd same
-      stamp_of (Some u) (Some k) stamp x same is (inr e) = let equal : x ≡ k.timestamp = let both = sym is ∙ e in cc in let t : u.timestamp ≡ x = same ∙ sym equal in grind (arith, nat_tests)
-
-  -- what a packet that is taken leaves
-  abbrev work_of : ℕ → SequencedDepacketization → Packet → Depacketization
-  work_of most s p = (after_taken_packet most s p.0 p.1.payload).at_work
-
-  work_is : (most : ℕ) (w : Depacketization) (e : Option ℕ) (p : Packet) → is_expected e p.0 ≡ true → nat_lt most (run_len (after_packets (with_run_if (is_expected e p.0) w) (p.1.payload ∷ [])).state.run) ≡ false →
-      work_of most (record { at_work = w; expected = e }) p ≡ after_packets w (p.1.payload ∷ [])
-  work_is most w e p at short =
-      let x = after_packets (with_run_if (is_expected e p.0) w) (p.1.payload ∷ []) in
-      let first : with_run_if (is_expected e p.0) w ≡ w = rw at refl in
-      ap (λ (r : Option (List ℕ)). with_open_run x r) (short_run most x.state.run short) ∙ ap (λ (v : Depacketization). after_packets v (p.1.payload ∷ [])) first
-
-  neither_is : (b c : Bool) → cond b false c ≡ true → (b ≡ false) × (c ≡ true)
-  neither_is true c e = absurd (let bad = e in cc)
-  neither_is false c e = (refl, e)
-
-  sound_at : (most : ℕ) (a : Assembly) (q : Packet) → is_sound most a q ≡ true →
-      (nat_lt most (run_len (after_sequenced_packet (taken_by a q.1.timestamp) q.0 q.1.payload).state.run) ≡ false) × (follows a q ≡ true)
-  sound_at most a q e =
-      let s = taken_by a q.1.timestamp in
-      let after = after_sequenced_packet s q.0 q.1.payload in
-      let first = neither_is (nat_lt most (run_len after.state.run)) (cond (is_unit_broken s.at_work after q.1.payload) false (follows a q)) e in
-      (first.0, (neither_is (is_unit_broken s.at_work after q.1.payload) (follows a q) first.1).1)
-
-  follows_at : (a : Assembly) (q : Packet) → follows a q ≡ true → is_expected a.expected q.0 ≡ true
-  follows_at a q e =
-      let first = neither_is a.is_gap (cond (is_closed_at a.closed q.1.timestamp) false (is_expected a.expected q.0)) e in
-      (neither_is (is_closed_at a.closed q.1.timestamp) (is_expected a.expected q.0) first.1).1
-
-  abbrev PieceOf : Packets → Packet → Depacketization → ℕ → AccessUnitNumbers → Type 0
-  PieceOf handed p w timestamp k = Piece (p ∷ handed) w.state (Some (next_sequence_number p.0)) timestamp w.out w.extra k.first k.last k.continues k.follows
-
-  -- one that ended, with its numbers
-  abbrev EndedOne : Packets → AccessUnitValue → AccessUnitNumbers → Type 0
-  EndedOne handed u k = u.is_whole ≡ true → Part handed u.timestamp u.bytes u.extra k.first k.last k.continues k.follows
-
-  abbrev EndedAre : Packets → List AccessUnitValue → Option AccessUnitNumbers → Option AccessUnitNumbers → Type 0
-  EndedAre handed [] e b = (e ≡ None) × (b ≡ None)
-  EndedAre handed (u ∷ units) (Some k) b = EndedOne handed u k × EndedAre handed units None b
-  EndedAre handed (u ∷ units) None (Some k) = EndedOne handed u k × EndedAre handed units None None
-  EndedAre handed (u ∷ units) None None = ⊥
-
-  -- what is open ends
-  open_ended : (handed : Packets) (holds : Bool) (u : Option AccessUnitValue) (k : Option AccessUnitNumbers) → SameStamp u k →
-      ((unit : AccessUnitValue) (numbers : AccessUnitNumbers) → u ≡ Some unit → k ≡ Some numbers → holds ≡ true → EndedOne handed unit numbers) → EndedAre handed (given_out holds u) k None
-  open_ended handed holds None None same each = (refl, refl)
-  open_ended handed holds None (Some k) same each = absurd same
-  open_ended handed holds (Some u) None same each = absurd same
-  open_ended handed holds (Some u) (Some k) same each = (λ whole. each u k refl refl (right_true u.is_whole holds whole) (left_true u.is_whole holds whole), (refl, refl))
-
-  -- not known to be whole
-  open_left : (handed : Packets) (u : Option AccessUnitValue) (k : Option AccessUnitNumbers) → SameStamp u k → EndedAre handed (given_out false u) k None
-  open_left handed u k same = open_ended handed false u k same (λ unit numbers a b holds. absurd (let bad = holds in cc))
-
-  piece_at : (handed : Packets) (r : DepacketizerState) (e : Option ℕ) (u : Option AccessUnitValue) (k : Option AccessUnitNumbers) (unit : AccessUnitValue) (numbers : AccessUnitNumbers) → u ≡ Some unit → k ≡ Some numbers → OpenIs handed r e u k →
-      unit.is_whole ≡ true → Piece handed r e unit.timestamp unit.bytes unit.extra numbers.first numbers.last numbers.continues numbers.follows
-  piece_at handed r e u k unit numbers is_u is_k opened =
-      subst (λ (x : Option AccessUnitNumbers). OpenIs handed r e (Some unit) x) is_k (subst (λ (x : Option AccessUnitValue). OpenIs handed r e x k) is_u opened)
-
-  -- before a packet right behind it
-  next_ended : (handed later : Packets) (r : DepacketizerState) (e : Option ℕ) (u : AccessUnitValue) (k : AccessUnitNumbers) (q : Packet) → Contains kept q → is_expected e q.0 ≡ true → is_run_closed r.run ≡ true →
-      (q.1.timestamp ≡ u.timestamp → ⊥) → Piece handed r e u.timestamp u.bytes u.extra k.first k.last k.continues k.follows → Part (later ++ handed) u.timestamp u.bytes u.extra k.first k.last k.continues k.follows
-  next_ended handed later r e u k q is_kept at closed other it =
-      let same = expected_is e it.due q.0 it.expects at in
-      part_of handed later r e u.timestamp u.bytes u.extra k.first k.last k.continues k.follows it closed
-      (subst (λ (d : ℕ). IsUnitEnded kept state.format u.timestamp d it.own it.before) same (by_timestamp q it.own it.before is_kept other))
-
-  content_ended : (handed : Packets) (r : DepacketizerState) (e : Option ℕ) (u : AccessUnitValue) (k : AccessUnitNumbers) → is_run_closed r.run ≡ true → ((due : ℕ) → e ≡ Some due → IsNextBegun kept state.format u.timestamp due handed) →
-      Piece handed r e u.timestamp u.bytes u.extra k.first k.last k.continues k.follows → Part handed u.timestamp u.bytes u.extra k.first k.last k.continues k.follows
-  content_ended handed r e u k closed next it = part_of handed [] r e u.timestamp u.bytes u.extra k.first k.last k.continues k.follows it closed
-      (by_content it.due it.own it.before (subst (IsNextBegun kept state.format u.timestamp it.due) it.place (next it.due it.expects)))
-
-  -- by a packet that bears the marker, and is its last
-  marked_ended : (handed : Packets) (r : DepacketizerState) (e : Option ℕ) (u : AccessUnitValue) (k : AccessUnitNumbers) (p : Packet) → p.1.marker ≡ true → p.1.timestamp ≡ u.timestamp → is_run_closed r.run ≡ true →
-      Piece (p ∷ handed) r e u.timestamp u.bytes u.extra k.first k.last k.continues k.follows → Part (p ∷ handed) u.timestamp u.bytes u.extra k.first k.last k.continues k.follows
-  marked_ended handed r e u k p marker stamp closed it = part_of (p ∷ handed) [] r e u.timestamp u.bytes u.extra k.first k.last k.continues k.follows it closed
-      (marked_end p handed it.before u.timestamp it.front it.back it.due it.own (depacketization r u.bytes u.extra) it.packets it.place marker stamp)
-
-  ended_more : (handed : Packets) (units : List AccessUnitValue) (e b : Option AccessUnitNumbers) (more_units : List AccessUnitValue) → EndedAre handed units e None → EndedAre handed more_units None b → EndedAre handed (units ++ more_units) e b
-  ended_more handed [] e b more_units is others = subst (λ (x : Option AccessUnitNumbers). EndedAre handed more_units x b) (sym is.0) others
-  ended_more handed (u ∷ []) (Some k) b more_units is others = (is.0, others)
-  ended_more handed (u ∷ v ∷ units) (Some k) b more_units is others = absurd is.1
-  ended_more handed (u ∷ units) None b more_units is others = absurd is
-
   -- a packet that is taken, with its marker where that is believed, where a marker ended this timestamp
   module _ (handed : Packets) (a : Assembly) (n : NumbersSoFar) (p : Packet) (m : Bool) (most missing : ℕ) (marked : Option ℕ) (small : p.0 < 65536) (text : has_no_text state.format p.1.payload ≡ false)
-      (kind : a.state ≡ state_with_run state a.state.run) (same : SameStamp a.unit n.unit) (has_slice : Bool) (timely : is_late a.expected p.0 ≡ false) (core : Core handed a n has_slice true)
+      (kind : a.state ≡ state_with_run state a.state.run) (same : SameStamp a.unit n.unit) (has_slice : Bool) (timely : is_late a.expected p.0 ≡ false) (core : Core state kept told handed a n has_slice true)
       (missing_is : missing ≡ missing_count a.expected p.0)
       (marked_is : is_timestamp marked p.1.timestamp ≡ false → is_unit_at a.unit p.1.timestamp ≡ false → IsOtherStamp n.marked p.1.timestamp ⊎ (begins_unit state.format p.1.payload ≡ true)) where
     abbrev q : Packet
@@ -514,12 +53,12 @@ module _ (state : DepacketizerState) (kept : Packets) (told : List ℕ) where
     ts = p.1.timestamp
 
     abbrev BehindAt : Option AccessUnitNumbers → Type 0
-    BehindAt k = n.has_begun ≡ true → n.skipped_gap ≡ 0 → Behind handed a.expected (last_stamp k n.marked) (true && not (is_some k))
+    BehindAt k = n.has_begun ≡ true → n.skipped_gap ≡ 0 → Behind state kept told handed a.expected (last_stamp state kept told k n.marked) (true && not (is_some k))
 
     other_than : (x y : ℕ) → (x == y) ≡ false → x ≡ y → ⊥
     other_than x y e is = grind (arith, nat_tests)
 
-    begun_behind : (stamp_now : Option ℕ) (is_closed : Bool) → IsOtherStamp stamp_now ts ⊎ ((begins_unit state.format p.1.payload ≡ true) × (is_closed ≡ true)) → Behind handed a.expected stamp_now is_closed → missing_count a.expected p.0 ≡ 0 →
+    begun_behind : (stamp_now : Option ℕ) (is_closed : Bool) → IsOtherStamp stamp_now ts ⊎ ((begins_unit state.format p.1.payload ≡ true) × (is_closed ≡ true)) → Behind state kept told handed a.expected stamp_now is_closed → missing_count a.expected p.0 ≡ 0 →
         IsBegunInOrder told kept state.format ts p handed
     begun_behind stamp_now is_closed other it none_is = record {
       stamp = it.stamp;
@@ -547,12 +86,12 @@ module _ (state : DepacketizerState) (kept : Packets) (told : List ℕ) where
             so (inl apart) = inl (subst (λ (x : Option ℕ). IsOtherStamp x ts) (sym e) apart)
             so (inr (begins, c)) = closed it.stamp refl begins c
 
-    new_begun : (k : Option AccessUnitNumbers) → BehindAt k → (is_timestamp marked ts ≡ false → IsOtherStamp (last_stamp k n.marked) ts ⊎ ((begins_unit state.format p.1.payload ≡ true) × ((true && not (is_some k)) ≡ true))) →
-        Begun ts p handed (is_timestamp marked ts) (n.has_begun && (missing_sum n.skipped_gap missing == 0))
+    new_begun : (k : Option AccessUnitNumbers) → BehindAt k → (is_timestamp marked ts ≡ false → IsOtherStamp (last_stamp state kept told k n.marked) ts ⊎ ((begins_unit state.format p.1.payload ≡ true) × ((true && not (is_some k)) ≡ true))) →
+        Begun state kept told ts p handed (is_timestamp marked ts) (n.has_begun && (missing_sum n.skipped_gap missing == 0))
     new_begun k behind other = λ continues follows.
         let zero_is = zero_at (missing_sum n.skipped_gap missing) (right_true n.has_begun (missing_sum n.skipped_gap missing == 0) follows) in
         let is = sum_none n.skipped_gap missing zero_is in
-        begun_behind (last_stamp k n.marked) (true && not (is_some k)) (other continues) (behind (left_true n.has_begun (missing_sum n.skipped_gap missing == 0) follows) is.0) (sym missing_is ∙ is.1)
+        begun_behind (last_stamp state kept told k n.marked) (true && not (is_some k)) (other continues) (behind (left_true n.has_begun (missing_sum n.skipped_gap missing == 0) follows) is.0) (sym missing_is ∙ is.1)
 
     still_closed : IsOtherStamp n.marked ts ⊎ (begins_unit state.format p.1.payload ≡ true) → IsOtherStamp n.marked ts ⊎ ((begins_unit state.format p.1.payload ≡ true) × (true ≡ true))
     still_closed (inl apart) = inl apart
@@ -569,22 +108,22 @@ module _ (state : DepacketizerState) (kept : Packets) (told : List ℕ) where
     counted k = unit_numbers (record n { unit = k; marked = marked }) q (missing_sum n.skipped_gap missing)
 
     abbrev IsPieceOf : Option AccessUnitValue → Option AccessUnitNumbers → Type 0
-    IsPieceOf u k = (unit_with most (at u) q).is_whole ≡ true → PieceOf handed p (work_of most (taken_by (at u) ts) p) (unit_with most (at u) q).timestamp (counted k)
+    IsPieceOf u k = (unit_with most (at u) q).is_whole ≡ true → PieceOf state kept told handed p (work_of state kept told most (taken_by (at u) ts) p) (unit_with most (at u) q).timestamp (counted k)
 
-    work_at : (u : Option AccessUnitValue) (w : Depacketization) → taken_by (at u) ts ≡ record { at_work = w; expected = a.expected } → is_sound most (at u) q ≡ true → work_of most (taken_by (at u) ts) p ≡ after_packets w (p.1.payload ∷ [])
+    work_at : (u : Option AccessUnitValue) (w : Depacketization) → taken_by (at u) ts ≡ record { at_work = w; expected = a.expected } → is_sound most (at u) q ≡ true → work_of state kept told most (taken_by (at u) ts) p ≡ after_packets w (p.1.payload ∷ [])
     work_at u w is sound =
-        let facts = sound_at most (at u) q sound in
-        let expected = follows_at (at u) q facts.1 in
-        ap (λ (s : SequencedDepacketization). work_of most s p) is
-        ∙ work_is most w a.expected p expected (subst (λ (s : SequencedDepacketization). nat_lt most (run_len (after_sequenced_packet s p.0 p.1.payload).state.run) ≡ false) is facts.0)
+        let facts = sound_at state kept told most (at u) q sound in
+        let expected = follows_at state kept told (at u) q facts.1 in
+        ap (λ (s : SequencedDepacketization). work_of state kept told most s p) is
+        ∙ work_is state kept told most w a.expected p expected (subst (λ (s : SequencedDepacketization). nat_lt most (run_len (after_sequenced_packet s p.0 p.1.payload).state.run) ≡ false) is facts.0)
 
     new_piece : (u : Option AccessUnitValue) (k : AccessUnitNumbers) → taken_by (at u) ts ≡ sequenced_depacketization (state_with_run a.state None) a.expected [] extras.None → is_sound most (at u) q ≡ true →
-        k.first ≡ p.0 → k.last ≡ p.0 → Begun ts p handed k.continues k.follows → PieceOf handed p (work_of most (taken_by (at u) ts) p) ts k
+        k.first ≡ p.0 → k.last ≡ p.0 → Begun state kept told ts p handed k.continues k.follows → PieceOf state kept told handed p (work_of state kept told most (taken_by (at u) ts) p) ts k
     new_piece u k is sound first_is last_is begun =
         let w = depacketization (state_with_run a.state None) [] extras.None in
         let work = work_at u w is sound ∙ ap (λ (r : DepacketizerState). after_packets (depacketization r [] extras.None) (p.1.payload ∷ [])) same_kind in
-        let it = piece_new handed p k.continues k.follows text begun in
-        subst (λ (v : Depacketization). PieceOf handed p v ts k) (sym work) (record {
+        let it = piece_new state kept told handed p k.continues k.follows text begun in
+        subst (λ (v : Depacketization). PieceOf state kept told handed p v ts k) (sym work) (record {
           front = it.front;
           back = it.back;
           due = it.due;
@@ -605,7 +144,7 @@ module _ (state : DepacketizerState) (kept : Packets) (told : List ℕ) where
       | false ↦ λ e. refl
     ] refl
 
-    taken_piece_by : (u : Option AccessUnitValue) (k : Option AccessUnitNumbers) → SameStamp u k → OpenIs handed a.state a.expected u k → BehindAt k →
+    taken_piece_by : (u : Option AccessUnitValue) (k : Option AccessUnitNumbers) → SameStamp u k → OpenIs state kept told handed a.state a.expected u k → BehindAt k →
         (is_timestamp marked ts ≡ false → is_unit_at u ts ≡ false → IsOtherStamp n.marked ts ⊎ (begins_unit state.format p.1.payload ≡ true)) → IsPieceOf u k
     taken_piece_by None None same_one opened behind means = λ whole.
         new_piece None (counted None) refl whole refl refl (new_begun None behind (λ e. still_closed (means e refl)))
@@ -618,23 +157,23 @@ module _ (state : DepacketizerState) (kept : Packets) (told : List ℕ) where
               let is : taken_by (at (Some u)) ts ≡ sequenced_depacketization a.state a.expected u.bytes u.extra = rw e refl in
               let sound = right_true (unit_at (Some u) ts).is_whole (is_sound most (at (Some u)) q) whole in
               let own_whole : u.is_whole ≡ true = subst (λ (b : Bool). (cond b u (empty_unit ts)).is_whole ≡ true) e (left_true (unit_at (Some u) ts).is_whole (is_sound most (at (Some u)) q) whole) in
-              let expected = follows_at (at (Some u)) q (sound_at most (at (Some u)) q sound).1 in
+              let expected = follows_at state kept told (at (Some u)) q (sound_at state kept told most (at (Some u)) q sound).1 in
               let stamp : ts ≡ u.timestamp = grind (arith, nat_tests) in
-              let it = piece_on handed a.state a.expected u.timestamp u.bytes u.extra k.first k.last k.continues k.follows p expected stamp text (opened own_whole) in
-              let work = work_of most (taken_by (at (Some u)) ts) p in
+              let it = piece_on state kept told handed a.state a.expected u.timestamp u.bytes u.extra k.first k.last k.continues k.follows p expected stamp text (opened own_whole) in
+              let work = work_of state kept told most (taken_by (at (Some u)) ts) p in
               let numbers_are : counted (Some k) ≡ numbers_to k q (missing_sum n.skipped_gap missing) = rw e_k refl in
-              let same_one : PieceOf handed p work u.timestamp (numbers_to k q (missing_sum n.skipped_gap missing)) =
-              subst (λ (v : Depacketization). Piece (p ∷ handed) v.state (Some (next_sequence_number p.0)) u.timestamp v.out v.extra k.first p.0 k.continues k.follows) (sym (work_at (Some u) (depacketization a.state u.bytes u.extra) is sound)) it in
-              λ w. subst (PieceOf handed p work (unit_at (Some u) ts).timestamp) (sym numbers_are) (subst (λ (t : ℕ). PieceOf handed p work t (numbers_to k q (missing_sum n.skipped_gap missing))) (sym (unit_stamp (Some u) ∙ stamp)) same_one)
+              let same_one : PieceOf state kept told handed p work u.timestamp (numbers_to k q (missing_sum n.skipped_gap missing)) =
+              subst (λ (v : Depacketization). Piece state kept told (p ∷ handed) v.state (Some (next_sequence_number p.0)) u.timestamp v.out v.extra k.first p.0 k.continues k.follows) (sym (work_at (Some u) (depacketization a.state u.bytes u.extra) is sound)) it in
+              λ w. subst (PieceOf state kept told handed p work (unit_at (Some u) ts).timestamp) (sym numbers_are) (subst (λ (t : ℕ). PieceOf state kept told handed p work t (numbers_to k q (missing_sum n.skipped_gap missing))) (sym (unit_stamp (Some u) ∙ stamp)) same_one)
           | false ↦ λ e.
               let e_k : (k.timestamp == ts) ≡ false = subst (λ (t : ℕ). (t == ts) ≡ false) same_one e in
               let is : taken_by (at (Some u)) ts ≡ sequenced_depacketization (state_with_run a.state None) a.expected [] extras.None = rw e refl in
               let sound = right_true (unit_at (Some u) ts).is_whole (is_sound most (at (Some u)) q) whole in
               let it = new_piece (Some u) (counted (Some k)) is sound (rw e_k refl) (rw e_k refl) (rw e_k (new_begun (Some k) behind (λ c. inl (other_than k.timestamp ts e_k)))) in
-              λ w. subst (λ (t : ℕ). PieceOf handed p (work_of most (taken_by (at (Some u)) ts) p) t (counted (Some k))) (sym (unit_stamp (Some u))) it
+              λ w. subst (λ (t : ℕ). PieceOf state kept told handed p (work_of state kept told most (taken_by (at (Some u)) ts) p) t (counted (Some k))) (sym (unit_stamp (Some u))) it
         ] refl whole
 
-    taken_piece : (unit_with most a q).is_whole ≡ true → PieceOf handed p (work_of most (taken_by a ts) p) (unit_with most a q).timestamp (counted n.unit)
+    taken_piece : (unit_with most a q).is_whole ≡ true → PieceOf state kept told handed p (work_of state kept told most (taken_by a ts) p) (unit_with most a q).timestamp (counted n.unit)
     taken_piece = taken_piece_by a.unit n.unit same core.opened core.behind marked_is
 
     counted_stamp : (k : Option AccessUnitNumbers) → (counted k).timestamp ≡ ts
@@ -656,15 +195,15 @@ module _ (state : DepacketizerState) (kept : Packets) (told : List ℕ) where
         let stamps : (unit_with most a q).timestamp ≡ (counted n.unit).timestamp = unit_stamp a.unit ∙ sym (counted_stamp n.unit) in
         elim (nat_lt limit (length (unit_with most a q).bytes)) as (λ long. (cond long (without_text (unit_with most a q)) (unit_with most a q)).timestamp ≡ (counted n.unit).timestamp) [ true ↦ stamps | false ↦ stamps ]
 
-    open_taken : (b : Bool) (limit : ℕ) → OpenIs (p ∷ handed) (after_taken_rtp most a q).state (Some (next_sequence_number p.0)) (open_now b limit) (counted_now b)
+    open_taken : (b : Bool) (limit : ℕ) → OpenIs state kept told (p ∷ handed) (after_taken_rtp most a q).state (Some (next_sequence_number p.0)) (open_now b limit) (counted_now b)
     open_taken true limit = tt
     open_taken false limit =
-        elim (nat_lt limit (length (unit_with most a q).bytes)) as (λ long. OpenIs (p ∷ handed) (after_taken_rtp most a q).state (Some (next_sequence_number p.0)) (Some (cond long (without_text (unit_with most a q)) (unit_with most a q))) (Some (counted n.unit))) [
+        elim (nat_lt limit (length (unit_with most a q).bytes)) as (λ long. OpenIs state kept told (p ∷ handed) (after_taken_rtp most a q).state (Some (next_sequence_number p.0)) (Some (cond long (without_text (unit_with most a q)) (unit_with most a q))) (Some (counted n.unit))) [
           | true ↦ λ whole. absurd (let bad = whole in cc)
           | false ↦ taken_piece
         ]
 
-    now_stamp : (b : Bool) → last_stamp (counted_now b) (if b then Some ts else None) ≡ Some ts
+    now_stamp : (b : Bool) → last_stamp state kept told (counted_now b) (if b then Some ts else None) ≡ Some ts
     now_stamp true = refl
     now_stamp false = ap Some (counted_stamp n.unit)
 
@@ -677,7 +216,7 @@ module _ (state : DepacketizerState) (kept : Packets) (told : List ℕ) where
         by false e = same_number (unit_with most a q).timestamp timestamp e
 
     core_taken : (limit : ℕ) (after_slice : Bool) → (m ≡ true → p.1.marker ≡ true) → (after_slice ≡ true → ((is_unit_at a.unit ts ≡ true) × (has_slice ≡ true)) ⊎ (bears_slice state.format p.1.payload ≡ true)) →
-        Core (p ∷ handed) (marker_forgotten (with_unit_within limit (after_taken_rtp most a q))) (after_packet (record n { marked = marked }) q missing) after_slice true
+        Core state kept told (p ∷ handed) (marker_forgotten (with_unit_within limit (after_taken_rtp most a q))) (after_packet (record n { marked = marked }) q missing) after_slice true
     core_taken limit after_slice marker slice_is = record {
       opened = open_taken m limit;
       behind = λ b g. record {
@@ -689,39 +228,39 @@ module _ (state : DepacketizerState) (kept : Packets) (told : List ℕ) where
         small = next_small p.0;
         closing = λ c x is. inl (closed m refl c);
       };
-      slices = λ sl timestamp is. subst (SliceAt (p ∷ handed) (Some (next_sequence_number p.0))) (now_at m limit timestamp is) (sliced (slice_is sl));
+      slices = λ sl timestamp is. subst (SliceAt state kept told (p ∷ handed) (Some (next_sequence_number p.0))) (now_at m limit timestamp is) (sliced (slice_is sl));
     }
       where
         closed : (b : Bool) → m ≡ b → (true && not (is_some (counted_now b))) ≡ true → (p.1.marker || has_no_text state.format p.1.payload) ≡ true
         closed true e c = first_true p.1.marker (has_no_text state.format p.1.payload) (marker e)
         closed false e c = absurd (let bad = c in cc)
 
-        sliced : ((is_unit_at a.unit ts ≡ true) × (has_slice ≡ true)) ⊎ (bears_slice state.format p.1.payload ≡ true) → SliceAt (p ∷ handed) (Some (next_sequence_number p.0)) ts
-        sliced (inl (at_it, sl)) = slice_more handed p a.expected ts timely (core.slices sl ts at_it)
+        sliced : ((is_unit_at a.unit ts ≡ true) × (has_slice ≡ true)) ⊎ (bears_slice state.format p.1.payload ≡ true) → SliceAt state kept told (p ∷ handed) (Some (next_sequence_number p.0)) ts
+        sliced (inl (at_it, sl)) = slice_more state kept told handed p a.expected ts timely (core.slices sl ts at_it)
         sliced (inr bears) = record { due = next_sequence_number p.0; expects = refl; slice = slice_last p handed refl bears }
 
     abbrev work : Depacketization
-    work = work_of most (taken_by a ts) p
+    work = work_of state kept told most (taken_by a ts) p
 
     abbrev own_ended : Bool → List AccessUnitValue
     own_ended b = if b then whole_if (is_run_closed work.state.run) (unit_with most a q) ∷ [] else []
 
-    own_marked : (b : Bool) → m ≡ b → (m ≡ true → p.1.marker ≡ true) → EndedAre (p ∷ handed) (own_ended b) None (if b then Some (counted n.unit) else None)
+    own_marked : (b : Bool) → m ≡ b → (m ≡ true → p.1.marker ≡ true) → EndedAre (EndedOne state kept told (p ∷ handed)) (own_ended b) None (if b then Some (counted n.unit) else None)
     own_marked false e marker = (refl, refl)
     own_marked true e marker = (
       λ whole.
           let u = unit_with most a q in
           let closed = is_run_closed work.state.run in
-          marked_ended handed work.state (Some (next_sequence_number p.0)) u (counted n.unit) p (marker e) (sym (unit_stamp a.unit)) (right_true u.is_whole closed whole) (taken_piece (left_true u.is_whole closed whole)),
+          marked_ended state kept told handed work.state (Some (next_sequence_number p.0)) u (counted n.unit) p (marker e) (sym (unit_stamp a.unit)) (right_true u.is_whole closed whole) (taken_piece (left_true u.is_whole closed whole)),
       (refl, refl),
     )
 
-    other_ended : (u : Option AccessUnitValue) (k : Option AccessUnitNumbers) → Contains kept p → SameStamp u k → OpenIs handed a.state a.expected u k → EndedAre (p ∷ handed) (ended_by (at u) q) (numbers_ended k ts) None
+    other_ended : (u : Option AccessUnitValue) (k : Option AccessUnitNumbers) → Contains kept p → SameStamp u k → OpenIs state kept told handed a.state a.expected u k → EndedAre (EndedOne state kept told (p ∷ handed)) (ended_by (at u) q) (numbers_ended k ts) None
     other_ended None None is_kept same_one opened = (refl, refl)
     other_ended None (Some k) is_kept same_one opened = absurd same_one
     other_ended (Some u) None is_kept same_one opened = absurd same_one
     other_ended (Some u) (Some k) is_kept same_one opened =
-        elim (u.timestamp == ts) as (λ b. (u.timestamp == ts) ≡ b → EndedAre (p ∷ handed) (cond b [] (given_out (follows (at (Some u)) q && is_run_closed a.state.run) (Some u))) (numbers_ended (Some k) ts) None) [
+        elim (u.timestamp == ts) as (λ b. (u.timestamp == ts) ≡ b → EndedAre (EndedOne state kept told (p ∷ handed)) (cond b [] (given_out (follows (at (Some u)) q && is_run_closed a.state.run) (Some u))) (numbers_ended (Some k) ts) None) [
           | true ↦ λ e. let e_k : (k.timestamp == ts) ≡ true = subst (λ (t : ℕ). (t == ts) ≡ true) same_one e in rw e_k (refl, refl)
           | false ↦ λ e.
               let e_k : (k.timestamp == ts) ≡ false = subst (λ (t : ℕ). (t == ts) ≡ false) same_one e in
@@ -731,16 +270,16 @@ module _ (state : DepacketizerState) (kept : Packets) (told : List ℕ) where
               rw e_k (
                 λ whole.
                     let both = right_true u.is_whole (behind_it && closed) whole in
-                    next_ended handed (p ∷ []) a.state a.expected u k p is_kept (follows_at (at (Some u)) q (left_true behind_it closed both)) (right_true behind_it closed both) other (opened (left_true u.is_whole (behind_it && closed) whole)),
+                    next_ended state kept told handed (p ∷ []) a.state a.expected u k p is_kept (follows_at state kept told (at (Some u)) q (left_true behind_it closed both)) (right_true behind_it closed both) other (opened (left_true u.is_whole (behind_it && closed) whole)),
                 (refl, refl),
               )
         ] refl
 
     -- what ended by it
-    ended_taken : a.ended ≡ [] → Contains kept p → (m ≡ true → p.1.marker ≡ true) → EndedAre (p ∷ handed) (after_taken_rtp most a q).ended (numbers_ended n.unit ts) (if m then Some (counted n.unit) else None)
+    ended_taken : a.ended ≡ [] → Contains kept p → (m ≡ true → p.1.marker ≡ true) → EndedAre (EndedOne state kept told (p ∷ handed)) (after_taken_rtp most a q).ended (numbers_ended n.unit ts) (if m then Some (counted n.unit) else None)
     ended_taken empty is_kept marker =
-        subst (λ (x : List AccessUnitValue). EndedAre (p ∷ handed) ((x ++ ended_by a q) ++ own_ended m) (numbers_ended n.unit ts) (if m then Some (counted n.unit) else None)) (sym empty)
-        (ended_more (p ∷ handed) (ended_by a q) (numbers_ended n.unit ts) (if m then Some (counted n.unit) else None) (own_ended m) (other_ended a.unit n.unit is_kept same core.opened) (own_marked m refl marker))
+        subst (λ (x : List AccessUnitValue). EndedAre (EndedOne state kept told (p ∷ handed)) ((x ++ ended_by a q) ++ own_ended m) (numbers_ended n.unit ts) (if m then Some (counted n.unit) else None)) (sym empty)
+        (ended_more (EndedOne state kept told (p ∷ handed)) (ended_by a q) (numbers_ended n.unit ts) (if m then Some (counted n.unit) else None) (own_ended m) (other_ended a.unit n.unit is_kept same core.opened) (own_marked m refl marker))
 
   -- the depacketizer is of the same kind whatever its run
   pub kind_with : (r : DepacketizerState) → r ≡ state_with_run state r.run → (run : Option (List ℕ)) → state_with_run r run ≡ state_with_run state run
@@ -756,23 +295,20 @@ module _ (state : DepacketizerState) (kept : Packets) (told : List ℕ) where
   pub record PartsIf (has_slice : Bool) (handed : Packets) (a : Assembly) (n : NumbersSoFar) (is_anew : Bool) : Type 0 where
     pub kind : a.state ≡ state_with_run state a.state.run
     sync : SameStamp a.unit n.unit
-    core : is_anew ≡ false → Core handed a n has_slice true
-    ended : EndedAre handed a.ended n.ended n.ended_by_marker
+    core : is_anew ≡ false → Core state kept told handed a n has_slice true
+    ended : EndedAre (EndedOne state kept told handed) a.ended n.ended n.ended_by_marker
 
   -- where the stream hasn't begun anew
   abbrev pub Parts : Bool → Packets → Assembly → NumbersSoFar → Type 0
   Parts has_slice handed a n = PartsIf has_slice handed a n false
 
   -- where none that ended is left
-  none_ended : (handed : Packets) (units : List AccessUnitValue) (e b : Option AccessUnitNumbers) → units ≡ [] → EndedAre handed units e b → (e ≡ None) × (b ≡ None)
-  none_ended handed units e b empty is = subst (λ (x : List AccessUnitValue). EndedAre handed x e b) empty is
-
-  still_none : (handed : Packets) (units : List AccessUnitValue) (e b : Option AccessUnitNumbers) → units ≡ [] → (e ≡ None) × (b ≡ None) → EndedAre handed units e b
-  still_none handed units e b empty is = subst (λ (x : List AccessUnitValue). EndedAre handed x e b) (sym empty) is
+  still_none : (handed : Packets) (units : List AccessUnitValue) (e b : Option AccessUnitNumbers) → units ≡ [] → (e ≡ None) × (b ≡ None) → EndedAre (EndedOne state kept told handed) units e b
+  still_none handed units e b empty is = subst (λ (x : List AccessUnitValue). EndedAre (EndedOne state kept told handed) x e b) (sym empty) is
 
   -- a number that bears nothing is skipped, where this ended before
-  skip_parts : {has_slice is_known : Bool} (handed : Packets) (a : Assembly) (n : NumbersSoFar) (p : Packet) → p.0 < 65536 → is_late a.expected p.0 ≡ false → has_no_text state.format p.1.payload ≡ true → a.state ≡ state_with_run state a.state.run → SameStamp a.unit n.unit → Core handed a n has_slice is_known →
-      EndedAre (p ∷ handed) a.ended n.ended n.ended_by_marker → Parts has_slice (p ∷ handed) (marker_forgotten (after_unit_skip a p.0)) (after_gap n (missing_told (skip_answer a.expected p.0)))
+  skip_parts : {has_slice is_known : Bool} (handed : Packets) (a : Assembly) (n : NumbersSoFar) (p : Packet) → p.0 < 65536 → is_late a.expected p.0 ≡ false → has_no_text state.format p.1.payload ≡ true → a.state ≡ state_with_run state a.state.run → SameStamp a.unit n.unit → Core state kept told handed a n has_slice is_known →
+      EndedAre (EndedOne state kept told (p ∷ handed)) a.ended n.ended n.ended_by_marker → Parts has_slice (p ∷ handed) (marker_forgotten (after_unit_skip a p.0)) (after_gap n (missing_told (skip_answer a.expected p.0)))
   skip_parts handed a n p small timely bare kind same core ended = record {
     kind = elim (is_run_kept a.expected p.0) as (λ b. let x = cond b (record a { expected = expected_after_skip a.expected p.0 }) (behind_missing a p.0) in x.state ≡ state_with_run state x.state.run) [
       | true ↦ kind
@@ -782,21 +318,21 @@ module _ (state : DepacketizerState) (kept : Packets) (told : List ℕ) where
       | true ↦ same
       | false ↦ same_broken a.unit n.unit same
     ];
-    core = λ e. core_skip handed a n _ _ p small timely bare core;
-    ended = elim (is_run_kept a.expected p.0) as (λ b. EndedAre (p ∷ handed) (cond b (record a { expected = expected_after_skip a.expected p.0 }) (behind_missing a p.0)).ended n.ended n.ended_by_marker) [
+    core = λ e. core_skip state kept told handed a n _ _ p small timely bare core;
+    ended = elim (is_run_kept a.expected p.0) as (λ b. EndedAre (EndedOne state kept told (p ∷ handed)) (cond b (record a { expected = expected_after_skip a.expected p.0 }) (behind_missing a p.0)).ended n.ended n.ended_by_marker) [
       | true ↦ ended
       | false ↦ ended
     ];
   }
 
   -- one that is refused is passed over
-  over_parts : {has_slice is_known : Bool} (handed : Packets) (a : Assembly) (n : NumbersSoFar) (p : Packet) → is_late a.expected p.0 ≡ false → a.state ≡ state_with_run state a.state.run → SameStamp a.unit n.unit → Core handed a n has_slice is_known →
-      EndedAre (p ∷ handed) a.ended n.ended n.ended_by_marker → Parts has_slice (p ∷ handed) (marker_forgotten (after_pass_over a p.0)) (after_gap n (missing_up_to a.expected p.0))
+  over_parts : {has_slice is_known : Bool} (handed : Packets) (a : Assembly) (n : NumbersSoFar) (p : Packet) → is_late a.expected p.0 ≡ false → a.state ≡ state_with_run state a.state.run → SameStamp a.unit n.unit → Core state kept told handed a n has_slice is_known →
+      EndedAre (EndedOne state kept told (p ∷ handed)) a.ended n.ended n.ended_by_marker → Parts has_slice (p ∷ handed) (marker_forgotten (after_pass_over a p.0)) (after_gap n (missing_up_to a.expected p.0))
   over_parts handed a n p timely kind same core ended = record {
-    kind = rw (over_is a p.0 timely) (kind_with a.state kind None);
-    sync = rw (over_is a p.0 timely) (same_broken a.unit n.unit same);
-    core = λ e. core_over handed a n _ _ p timely core;
-    ended = rw (over_is a p.0 timely) ended;
+    kind = rw (over_is state kept told a p.0 timely) (kind_with a.state kind None);
+    sync = rw (over_is state kept told a p.0 timely) (same_broken a.unit n.unit same);
+    core = λ e. core_over state kept told handed a n _ _ p timely core;
+    ended = rw (over_is state kept told a p.0 timely) ended;
   }
 
   unit_at_is : (u : AccessUnitValue) (timestamp : ℕ) → is_unit_at (Some u) timestamp ≡ true → timestamp ≡ u.timestamp
@@ -804,12 +340,12 @@ module _ (state : DepacketizerState) (kept : Packets) (told : List ℕ) where
 
   -- one that ended by a packet that bears nothing but the marker
   bare_ended : (handed : Packets) (a : Assembly) (n : NumbersSoFar) (p : Packet) (holds : Bool) → is_expected a.expected p.0 ≡ true → has_no_text state.format p.1.payload ≡ true → is_unit_at a.unit p.1.timestamp ≡ true → p.1.marker ≡ true →
-      SameStamp a.unit n.unit → OpenIs handed a.state a.expected a.unit n.unit → EndedAre (p ∷ handed) (given_out (holds && is_run_closed a.state.run) a.unit) n.unit None
-  bare_ended handed a n p holds at bare of_unit marker same opened = open_ended (p ∷ handed) (holds && is_run_closed a.state.run) a.unit n.unit same (λ u k is_u is_k both whole.
+      SameStamp a.unit n.unit → OpenIs state kept told handed a.state a.expected a.unit n.unit → EndedAre (EndedOne state kept told (p ∷ handed)) (given_out (holds && is_run_closed a.state.run) a.unit) n.unit None
+  bare_ended handed a n p holds at bare of_unit marker same opened = whole_ended state kept told (p ∷ handed) (holds && is_run_closed a.state.run) a.unit n.unit same (λ u k is_u is_k both whole.
       let closed = right_true holds (is_run_closed a.state.run) both in
       let stamp = unit_at_is u p.1.timestamp (subst (λ (x : Option AccessUnitValue). is_unit_at x p.1.timestamp ≡ true) is_u of_unit) in
-      let it = piece_at handed a.state a.expected a.unit n.unit u k is_u is_k opened whole in
-      marked_ended handed a.state (Some (next_sequence_number p.0)) u k p marker stamp closed (piece_bare handed a.state a.expected u.timestamp u.bytes u.extra k.first k.last k.continues k.follows p at bare it))
+      let it = piece_at state kept told handed a.state a.expected a.unit n.unit u k is_u is_k opened whole in
+      marked_ended state kept told handed a.state (Some (next_sequence_number p.0)) u k p marker stamp closed (piece_bare state kept told handed a.state a.expected u.timestamp u.bytes u.extra k.first k.last k.continues k.follows p at bare it))
 
   -- a packet of which nothing is to be written
   no_unit_parts : (has_slice : Bool) (handed : Packets) (a : Assembly) (n : NumbersSoFar) (p : Packet) (m : Bool) → p.0 < 65536 → is_late a.expected p.0 ≡ false → has_no_text state.format p.1.payload ≡ true → (m ≡ true → p.1.marker ≡ true) → a.ended ≡ [] → Parts has_slice handed a n →
@@ -817,16 +353,16 @@ module _ (state : DepacketizerState) (kept : Packets) (told : List ℕ) where
       Parts has_slice (p ∷ handed) (marker_forgotten (after_no_unit a q)) (after_gap (if ends_with a q then numbers_closed n else n) (missing_told (skip_answer a.expected p.0)))
   no_unit_parts has_slice handed a n p m small timely bare marker empty it =
       let q : Packet = (p.0, rtp_body p.1.timestamp m p.1.payload) in
-      let none_is = none_ended handed a.ended n.ended n.ended_by_marker empty it.ended in
+      let none_is = none_ended (EndedOne state kept told handed) a.ended n.ended n.ended_by_marker empty it.ended in
       elim (ends_with a q) as (λ b. ends_with a q ≡ b → Parts has_slice (p ∷ handed) (marker_forgotten (after_unit_skip (cond b (after_ending a) a) p.0)) (after_gap (cond b (numbers_closed n) n) (missing_told (skip_answer a.expected p.0)))) [
         | true ↦ λ e.
             let is_marked = left_true m (is_unit_at a.unit p.1.timestamp && is_expected a.expected p.0) e in
             let rest = right_true m (is_unit_at a.unit p.1.timestamp && is_expected a.expected p.0) e in
             let of_unit = left_true (is_unit_at a.unit p.1.timestamp) (is_expected a.expected p.0) rest in
             let at = right_true (is_unit_at a.unit p.1.timestamp) (is_expected a.expected p.0) rest in
-            skip_parts handed (after_ending a) (numbers_closed n) p small timely bare (kind_with a.state it.kind None) tt (core_ending handed a n has_slice true false p.1.timestamp it.sync of_unit (λ c due x e at_x. absurd (let bad = c in cc)) (it.core refl))
-            (subst (λ (x : List AccessUnitValue). EndedAre (p ∷ handed) (x ++ given_out (not a.is_gap && is_run_closed a.state.run) a.unit) n.unit n.ended_by_marker) (sym empty)
-            (subst (EndedAre (p ∷ handed) (given_out (not a.is_gap && is_run_closed a.state.run) a.unit) n.unit) (sym none_is.1)
+            skip_parts handed (after_ending a) (numbers_closed n) p small timely bare (kind_with a.state it.kind None) tt (core_ending state kept told handed a n has_slice true false p.1.timestamp it.sync of_unit (λ c due x e at_x. absurd (let bad = c in cc)) (it.core refl))
+            (subst (λ (x : List AccessUnitValue). EndedAre (EndedOne state kept told (p ∷ handed)) (x ++ given_out (not a.is_gap && is_run_closed a.state.run) a.unit) n.unit n.ended_by_marker) (sym empty)
+            (subst (EndedAre (EndedOne state kept told (p ∷ handed)) (given_out (not a.is_gap && is_run_closed a.state.run) a.unit) n.unit) (sym none_is.1)
             (bare_ended handed a n p (not a.is_gap) at bare of_unit (marker is_marked) it.sync (it.core refl).opened)))
         | false ↦ λ e. skip_parts handed a n p small timely bare it.kind it.sync (it.core refl) (still_none (p ∷ handed) a.ended n.ended n.ended_by_marker empty none_is)
       ] refl
@@ -844,7 +380,7 @@ module _ (state : DepacketizerState) (kept : Packets) (told : List ℕ) where
       let q : Packet = (p.0, rtp_body p.1.timestamp m p.1.payload) in
       let by : (marked : Option ℕ) → (is_timestamp marked p.1.timestamp ≡ false → is_unit_at a.unit p.1.timestamp ≡ false → IsOtherStamp n.marked p.1.timestamp ⊎ (begins_unit state.format p.1.payload ≡ true)) →
       Parts after_slice (p ∷ handed) (marker_forgotten (with_unit_within limit (after_taken_rtp most a q))) (after_packet (record n { marked = marked }) q missing) = λ marked means. record {
-        kind = kind_with a.state it.kind (work_of most (taken_by a p.1.timestamp) p).state.run;
+        kind = kind_with a.state it.kind (work_of state kept told most (taken_by a p.1.timestamp) p).state.run;
         sync = sync_taken handed a n p m most missing marked small text it.kind it.sync has_slice timely (it.core refl) missing_is means m limit;
         core = λ e. core_taken handed a n p m most missing marked small text it.kind it.sync has_slice timely (it.core refl) missing_is means limit after_slice marker slice_is;
         ended = ended_taken handed a n p m most missing marked small text it.kind it.sync has_slice timely (it.core refl) missing_is means empty is_kept marker;
@@ -906,7 +442,7 @@ module _ (state : DepacketizerState) (kept : Packets) (told : List ℕ) where
     bearing = believed framing_then p
 
     parts_begun : Parts framing.has_slice handed begun_one n
-    parts_begun = record { kind = it.kind; sync = it.sync; core = λ e. core_begun handed a n framing.has_slice true p (it.core refl); ended = it.ended }
+    parts_begun = record { kind = it.kind; sync = it.sync; core = λ e. core_begun state kept told handed a n framing.has_slice true p (it.core refl); ended = it.ended }
 
     marked_too : believes framing_then p.1.marker ≡ true → p.1.marker ≡ true
     marked_too e = left_true p.1.marker (framing_then.has_slice && not framing_then.marks_slices) e
@@ -947,8 +483,8 @@ module _ (state : DepacketizerState) (kept : Packets) (told : List ℕ) where
         by (received.Gap k) e told_y = taken_parts framing.has_slice handed begun_one n p (believes framing_then p.1.marker) most limit k framing_then.stands_still framing_then.has_slice small timely slice_then text told_y begins_then marked_too is_kept empty parts_begun
         by (received.TooLong k) e told_y = taken_parts framing.has_slice handed begun_one n p (believes framing_then p.1.marker) most limit k framing_then.stands_still framing_then.has_slice small timely slice_then text told_y begins_then marked_too is_kept empty parts_begun
 
-    kept_ended : EndedAre (p ∷ handed) a.ended n.ended n.ended_by_marker
-    kept_ended = still_none (p ∷ handed) a.ended n.ended n.ended_by_marker empty (none_ended handed a.ended n.ended n.ended_by_marker empty it.ended)
+    kept_ended : EndedAre (EndedOne state kept told (p ∷ handed)) a.ended n.ended n.ended_by_marker
+    kept_ended = still_none (p ∷ handed) a.ended n.ended n.ended_by_marker empty (none_ended (EndedOne state kept told handed) a.ended n.ended n.ended_by_marker empty it.ended)
 
     -- it was refused, and bears nothing
     refused_text : (error : PacketError) → bears_no_unit (a.state.format.extra false) error p.1.payload ≡ true → ((answer : Result Received PacketError) → answer ≡ Err error → answer ≡ Err OutOfMemory → ⊥) → IsAnswerTo most begun_one bearing (Err error) → has_no_text state.format p.1.payload ≡ true
@@ -969,14 +505,14 @@ module _ (state : DepacketizerState) (kept : Packets) (told : List ℕ) where
           | true ↦ λ e is.
               let same = taken_same x (skip_answer begun_one.expected p.0) is in
               subst (λ (y : Received). Parts framing.has_slice (p ∷ handed) (marker_forgotten (after_unit_skip begun_one p.0)) (after_gap n (missing_told y))) (sym same)
-              (skip_parts handed begun_one n p small timely (rw e refl) it.kind it.sync (core_begun handed a n framing.has_slice true p (it.core refl)) kept_ended)
+              (skip_parts handed begun_one n p small timely (rw e refl) it.kind it.sync (core_begun state kept told handed a n framing.has_slice true p (it.core refl)) kept_ended)
           | false ↦ λ e is. subst (λ (b : Bool). Parts (cond b (framing_marked framing_then bearing.1.marker) framing).has_slice (p ∷ handed) (marker_forgotten (after_rtp most limit begun_one bearing (Ok x))) (cond (is_taken (Ok x)) (numbers_taken (numbers_still framing_then.stands_still n) bearing x) (numbers_taken n bearing x))) (sym (on_time x refl)) (taken_so x (on_time x refl) e is)
         ] refl answered
     due_parts (Err error) answered room on_time =
         elim (is_no_unit begun_one error p.1.payload) as (λ c. is_no_unit begun_one error p.1.payload ≡ c → Parts framing.has_slice (p ∷ handed) (marker_forgotten (cond c (after_no_unit begun_one bearing) (after_pass_over begun_one p.0)))
         (cond c (after_gap (if ends_with begun_one bearing then numbers_closed n else n) (missing_told (skip_answer begun_one.expected p.0))) (after_gap n (missing_up_to begun_one.expected p.0)))) [
           | true ↦ λ e. no_unit_parts framing.has_slice handed begun_one n p (believes framing_then p.1.marker) small timely (refused_text error e (λ x is same. room (sym is ∙ same)) answered) marked_too empty parts_begun
-          | false ↦ λ e. over_parts handed begun_one n p timely it.kind it.sync (core_begun handed a n framing.has_slice true p (it.core refl)) kept_ended
+          | false ↦ λ e. over_parts handed begun_one n p timely it.kind it.sync (core_begun state kept told handed a n framing.has_slice true p (it.core refl)) kept_ended
         ] refl
 
   own_stamp : (x : ℕ) → (x == x) ≡ true
@@ -1017,7 +553,7 @@ module _ (state : DepacketizerState) (kept : Packets) (told : List ℕ) where
       Parts framing.has_slice handed (after_ending a) (numbers_closed n)
   content_parts handed a n framing q e present is_kept empty it =
       let ends = content_ends a framing q e present in
-      let none_is = none_ended handed a.ended n.ended n.ended_by_marker empty it.ended in
+      let none_is = none_ended (EndedOne state kept told handed) a.ended n.ended n.ended_by_marker empty it.ended in
       let begins = subst (λ (f : Format). begins_unit f q.1.payload ≡ true) (format_is a.state it.kind) ends.begins in
       let holds = not a.is_gap && is_run_closed a.state.run in
       let next : (due x : ℕ) → a.expected ≡ Some due → is_unit_at a.unit x ≡ true → IsNextBegun kept state.format x due handed = λ due x is at_x.
@@ -1027,14 +563,14 @@ module _ (state : DepacketizerState) (kept : Packets) (told : List ℕ) where
       record {
         kind = kind_with a.state it.kind None;
         sync = tt;
-        core = λ x. core_ending handed a n framing.has_slice true true q.1.timestamp it.sync ends.of_unit (λ c due y is at_y. inr (next due y is at_y)) (it.core refl);
+        core = λ x. core_ending state kept told handed a n framing.has_slice true true q.1.timestamp it.sync ends.of_unit (λ c due y is at_y. inr (next due y is at_y)) (it.core refl);
         ended =
-            subst (λ (x : List AccessUnitValue). EndedAre handed (x ++ given_out holds a.unit) n.unit n.ended_by_marker) (sym empty)
-            (subst (EndedAre handed (given_out holds a.unit) n.unit) (sym none_is.1)
-            (open_ended handed holds a.unit n.unit it.sync (λ u k is_u is_k both whole.
-            content_ended handed a.state a.expected u k (right_true (not a.is_gap) (is_run_closed a.state.run) both)
+            subst (λ (x : List AccessUnitValue). EndedAre (EndedOne state kept told handed) (x ++ given_out holds a.unit) n.unit n.ended_by_marker) (sym empty)
+            (subst (EndedAre (EndedOne state kept told handed) (given_out holds a.unit) n.unit) (sym none_is.1)
+            (whole_ended state kept told handed holds a.unit n.unit it.sync (λ u k is_u is_k both whole.
+            content_ended state kept told handed a.state a.expected u k (right_true (not a.is_gap) (is_run_closed a.state.run) both)
             (λ due is. next due u.timestamp is (subst (λ (x : Option AccessUnitValue). is_unit_at x u.timestamp ≡ true) (sym is_u) (own_stamp u.timestamp)))
-            (piece_at handed a.state a.expected a.unit n.unit u k is_u is_k (it.core refl).opened whole))));
+            (piece_at state kept told handed a.state a.expected a.unit n.unit u k is_u is_k (it.core refl).opened whole))));
       }
 
   -- once the one that is open ended, not known to be whole, and what comes next follows none
@@ -1045,9 +581,9 @@ module _ (state : DepacketizerState) (kept : Packets) (told : List ℕ) where
     sync = rw none_open tt;
     core = λ e. record { opened = tt; behind = λ b g. absurd (let bad = sym b ∙ fresh in cc); slices = λ sl x is. absurd (let bad = is in cc) };
     ended =
-        subst (λ (x : List AccessUnitValue). EndedAre handed (x ++ given_out false a.unit) new.ended new.ended_by_marker) (sym empty)
-        (subst (EndedAre handed (given_out false a.unit) new.ended) (sym marked_is)
-        (subst (λ (x : Option AccessUnitNumbers). EndedAre handed (given_out false a.unit) x None) (sym ended_is) (open_left handed a.unit n.unit same)));
+        subst (λ (x : List AccessUnitValue). EndedAre (EndedOne state kept told handed) (x ++ given_out false a.unit) new.ended new.ended_by_marker) (sym empty)
+        (subst (EndedAre (EndedOne state kept told handed) (given_out false a.unit) new.ended) (sym marked_is)
+        (subst (λ (x : Option AccessUnitNumbers). EndedAre (EndedOne state kept told handed) (given_out false a.unit) x None) (sym ended_is) (open_left state kept told handed a.unit n.unit same)));
   }
 
   -- a new assembler of this kind
@@ -1065,7 +601,7 @@ module _ (state : DepacketizerState) (kept : Packets) (told : List ℕ) where
     kind = it.kind;
     sync = it.sync;
     core = λ e. record {
-      opened = subst (λ (u : Option AccessUnitValue). OpenIs handed a.state (Some number) u n.unit) (sym (none_is e)) tt;
+      opened = subst (λ (u : Option AccessUnitValue). OpenIs state kept told handed a.state (Some number) u n.unit) (sym (none_is e)) tt;
       behind = λ b g. record { due = number; stamp = None; right = as_told number handed is_told; expects = refl; stamp_is = inl refl; small = small; closing = λ c x is. absurd (let bad = is in cc) };
       slices = λ sl x is. absurd (let bad = subst (λ (u : Option AccessUnitValue). is_unit_at u x ≡ true) (none_is e) is in cc);
     };
@@ -1074,22 +610,22 @@ module _ (state : DepacketizerState) (kept : Packets) (told : List ℕ) where
 
   -- the first that ended is gone
   record FirstIs (handed : Packets) (a : Assembly) (n : NumbersSoFar) (unit : AccessUnitValue) (units : List AccessUnitValue) : Type 0 where
-    first : EndedOne handed unit (first_ended n)
-    others : EndedAre handed units (without_first_ended n).ended (without_first_ended n).ended_by_marker
+    first : EndedOne state kept told handed unit (first_ended n)
+    others : EndedAre (EndedOne state kept told handed) units (without_first_ended n).ended (without_first_ended n).ended_by_marker
     same_unit : (without_first_ended n).unit ≡ n.unit
-    rest : {has_slice : Bool} → Core handed a n has_slice true → Core handed a (without_first_ended n) has_slice true
+    rest : {has_slice : Bool} → Core state kept told handed a n has_slice true → Core state kept told handed a (without_first_ended n) has_slice true
 
-  first_is_of : (handed : Packets) (a : Assembly) (n : NumbersSoFar) (unit : AccessUnitValue) (units : List AccessUnitValue) → EndedAre handed (unit ∷ units) n.ended n.ended_by_marker → FirstIs handed a n unit units
+  first_is_of : (handed : Packets) (a : Assembly) (n : NumbersSoFar) (unit : AccessUnitValue) (units : List AccessUnitValue) → EndedAre (EndedOne state kept told handed) (unit ∷ units) n.ended n.ended_by_marker → FirstIs handed a n unit units
   first_is_of handed a n unit units is = by n.ended n.ended_by_marker is
     where
-      by : (e b : Option AccessUnitNumbers) → EndedAre handed (unit ∷ units) e b → FirstIs handed a (record n { ended = e; ended_by_marker = b }) unit units
+      by : (e b : Option AccessUnitNumbers) → EndedAre (EndedOne state kept told handed) (unit ∷ units) e b → FirstIs handed a (record n { ended = e; ended_by_marker = b }) unit units
       by (Some k) b is = record { first = is.0; others = is.1; same_unit = refl; rest = λ core. record { opened = core.opened; behind = core.behind; slices = core.slices } }
       by None (Some k) is = record { first = is.0; others = is.1; same_unit = refl; rest = λ core. record { opened = core.opened; behind = core.behind; slices = core.slices } }
       by None None is = absurd is
 
   pub gone_parts : {has_slice : Bool} (is_anew : Bool) (handed : Packets) (a : Assembly) (n : NumbersSoFar) (unit : AccessUnitValue) (units : List AccessUnitValue) → a.ended ≡ unit ∷ units → PartsIf has_slice handed a n is_anew → PartsIf has_slice handed (record a { ended = units }) (without_first_ended n) is_anew
   gone_parts is_anew handed a n unit units is it =
-      let at = first_is_of handed a n unit units (subst (λ (x : List AccessUnitValue). EndedAre handed x n.ended n.ended_by_marker) is it.ended) in
+      let at = first_is_of handed a n unit units (subst (λ (x : List AccessUnitValue). EndedAre (EndedOne state kept told handed) x n.ended n.ended_by_marker) is it.ended) in
       record {
         kind = it.kind;
         sync = subst (SameStamp a.unit) (sym at.same_unit) it.sync;
@@ -1101,7 +637,7 @@ module _ (state : DepacketizerState) (kept : Packets) (told : List ℕ) where
   carried_parts : (has_slice : Bool) (is_anew : Bool) (handed : Packets) (a : Assembly) (n : NumbersSoFar) (missing : ℕ) → PartsIf has_slice handed a n is_anew → PartsIf has_slice handed a (numbers_carrying n missing) is_anew
   carried_parts has_slice is_anew handed a n missing it = by n.ended n.ended_by_marker n.unit it.sync (λ e. (it.core e).opened) (λ e. (it.core e).behind) it.ended
     where
-      units_with : (units : List AccessUnitValue) (e : Option AccessUnitNumbers) (k : AccessUnitNumbers) (m : ℕ) → EndedAre handed units e (Some k) → EndedAre handed units e (Some (record k { missing = m }))
+      units_with : (units : List AccessUnitValue) (e : Option AccessUnitNumbers) (k : AccessUnitNumbers) (m : ℕ) → EndedAre (EndedOne state kept told handed) units e (Some k) → EndedAre (EndedOne state kept told handed) units e (Some (record k { missing = m }))
       units_with [] e k m is = absurd (let bad = is.1 in cc)
       units_with (u ∷ units) (Some x) k m is = (is.0, units_with units None k m is.1)
       units_with (u ∷ units) None k m is = is
@@ -1110,11 +646,11 @@ module _ (state : DepacketizerState) (kept : Packets) (told : List ℕ) where
       same_with None k m same = same
       same_with (Some u) k m same = same
 
-      open_with : (u : Option AccessUnitValue) (k : AccessUnitNumbers) (m : ℕ) → OpenIs handed a.state a.expected u (Some k) → OpenIs handed a.state a.expected u (Some (record k { missing = m }))
+      open_with : (u : Option AccessUnitValue) (k : AccessUnitNumbers) (m : ℕ) → OpenIs state kept told handed a.state a.expected u (Some k) → OpenIs state kept told handed a.state a.expected u (Some (record k { missing = m }))
       open_with None k m opened = tt
       open_with (Some u) k m opened = opened
 
-      by : (e b u : Option AccessUnitNumbers) → SameStamp a.unit u → (is_anew ≡ false → OpenIs handed a.state a.expected a.unit u) → (is_anew ≡ false → n.has_begun ≡ true → n.skipped_gap ≡ 0 → Behind handed a.expected (last_stamp u n.marked) (true && not (is_some u))) → EndedAre handed a.ended e b → PartsIf has_slice handed a (numbers_carrying (record n { ended = e; ended_by_marker = b; unit = u }) missing) is_anew
+      by : (e b u : Option AccessUnitNumbers) → SameStamp a.unit u → (is_anew ≡ false → OpenIs state kept told handed a.state a.expected a.unit u) → (is_anew ≡ false → n.has_begun ≡ true → n.skipped_gap ≡ 0 → Behind state kept told handed a.expected (last_stamp state kept told u n.marked) (true && not (is_some u))) → EndedAre (EndedOne state kept told handed) a.ended e b → PartsIf has_slice handed a (numbers_carrying (record n { ended = e; ended_by_marker = b; unit = u }) missing) is_anew
       by e (Some k) u same opened behind ended = record { kind = it.kind; sync = same; core = λ x. record { opened = opened x; behind = behind x; slices = (it.core x).slices }; ended = units_with a.ended e k (missing_sum k.missing missing) ended }
       by e None (Some k) same opened behind ended = record { kind = it.kind; sync = same_with a.unit k (missing_sum k.missing missing) same; core = λ x. record { opened = open_with a.unit k (missing_sum k.missing missing) (opened x); behind = behind x; slices = (it.core x).slices }; ended = ended }
       by e None None same opened behind ended = record { kind = it.kind; sync = same; core = λ x. record { opened = opened x; behind = behind x; slices = (it.core x).slices }; ended = ended }
@@ -1123,7 +659,7 @@ module _ (state : DepacketizerState) (kept : Packets) (told : List ℕ) where
   bare_parts is_anew handed a n missing unit units is it = carried_parts _ is_anew handed (record a { ended = units }) (without_first_ended n) missing (gone_parts is_anew handed a n unit units is it)
 
   -- what is given out and told whole
-  told_whole : (handed : Packets) (d : DecoderState) (has_sets is_avc : Bool) (unit : AccessUnitValue) (k : AccessUnitNumbers) → is_avc ≡ state.is_avc → EndedOne handed unit k → (received_unit d has_sets is_avc unit k).is_whole ≡ true →
+  told_whole : (handed : Packets) (d : DecoderState) (has_sets is_avc : Bool) (unit : AccessUnitValue) (k : AccessUnitNumbers) → is_avc ≡ state.is_avc → EndedOne state kept told handed unit k → (received_unit d has_sets is_avc unit k).is_whole ≡ true →
       IsOfWholePackets told kept handed state (received_unit d has_sets is_avc unit k)
   told_whole handed d has_sets is_avc unit k avc_is one whole =
       let front = is_front d unit.extra (unit_content is_avc unit).first in
@@ -1161,12 +697,12 @@ module _ (state : DepacketizerState) (kept : Packets) (told : List ℕ) where
   pub first_whole : {has_slice : Bool} (is_anew : Bool) (handed : Packets) (d : DecoderState) (has_sets : Bool) (a : Assembly) (n : NumbersSoFar) (unit : AccessUnitValue) (units : List AccessUnitValue) → a.ended ≡ unit ∷ units → PartsIf has_slice handed a n is_anew →
       (received_unit d has_sets a.state.is_avc unit (first_ended n)).is_whole ≡ true → IsOfWholePackets told kept handed state (received_unit d has_sets a.state.is_avc unit (first_ended n))
   first_whole is_anew handed d has_sets a n unit units is it whole =
-      let at = first_is_of handed a n unit units (subst (λ (x : List AccessUnitValue). EndedAre handed x n.ended n.ended_by_marker) is it.ended) in
+      let at = first_is_of handed a n unit units (subst (λ (x : List AccessUnitValue). EndedAre (EndedOne state kept told handed) x n.ended n.ended_by_marker) is it.ended) in
       told_whole handed d has_sets a.state.is_avc unit (first_ended n) (ap (λ (r : DepacketizerState). r.is_avc) it.kind) at.first whole
 
   -- numbers missing before a packet end the one that is open
   pub missing_parts : {has_slice : Bool} (handed : Packets) (a : Assembly) (n : NumbersSoFar) (missing : ℕ) → a.ended ≡ [] → Parts has_slice handed a n → Parts has_slice handed (after_finishing a) (after_missing n missing)
-  missing_parts handed a n missing empty it = finished_parts false handed a n (after_missing n missing) it.sync it.kind empty refl refl refl (none_ended handed a.ended n.ended n.ended_by_marker empty it.ended).1
+  missing_parts handed a n missing empty it = finished_parts false handed a n (after_missing n missing) it.sync it.kind empty refl refl refl (none_ended (EndedOne state kept told handed) a.ended n.ended n.ended_by_marker empty it.ended).1
 
   -- so does the end of the stream
   pub last_parts : {has_slice new_slice : Bool} (is_anew new : Bool) (handed : Packets) (a : Assembly) (n : NumbersSoFar) → a.ended ≡ [] → PartsIf has_slice handed a n is_anew → PartsIf new_slice handed (after_finishing a) (after_last n) new

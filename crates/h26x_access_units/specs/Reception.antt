@@ -8,7 +8,7 @@ use Rattle.h26x_core.specs.Sequence.{next_sequence_number, missing_count, is_lat
 use Rattle.h26x_receiver.specs.Sequenced.{skip_answer, is_taken}
 use Rattle.h26x_reorder.specs.Rtp.{RtpBody, rtp_body}
 use Rattle.h26x_reorder.specs.ReorderBuffer.{goes_straight}
-use Rattle.h26x_assembler.specs.AccessUnit.{AccessUnitValue, Assembly, none_open, open_assembly, is_unit_at, IsAssemblyAnswer, is_text_given_up, after_rtp, after_unit_skip, after_pass_over, after_ending, after_finishing}
+use Rattle.h26x_assembler.specs.AccessUnit.{AccessUnitValue, OpenUnits, open_units_of, Assembly, none_open, open_assembly, is_unit_at, IsAssemblyAnswer, is_text_given_up, after_rtp, after_unit_skip, after_pass_over, after_ending, after_finishing}
 use Rattle.h26x_access_units.specs.declared.config.AccessUnitConfig.{AccessUnitConfig}
 use Rattle.h26x_access_units.specs.declared.counts.Counts.{Counts}
 use Rattle.h26x_access_units.specs.declared.decoder.DecoderState.{DecoderState}
@@ -600,6 +600,11 @@ abbrev pub GivesNext : ℕ → Reception → Result (Option ReceivedAccessUnit) 
     Type 0
 GivesNext now s result new =
     IfOk result (λ unit. IsNext now s new (option_map received_unit_value unit))
+
+-- the access unit that is open, as far as it came, where none that ended waits to be given out
+abbrev pub open_units : Reception → Option OpenUnits
+open_units s = if has_no_unit s.assembler.ended
+    then option_map open_units_of s.assembler.unit else None
 
 -- the numbers that a NACK asks for: those that are missing before packets that wait (RFC 4585, 6.2.1)
 abbrev pub nack_numbers : Reception → List ℕ

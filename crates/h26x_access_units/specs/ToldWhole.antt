@@ -19,7 +19,7 @@ use Rattle.h26x_access_units.specs.Numbers.{bears_nothing}
 use Rattle.h26x_access_units.specs.ReceivedAccessUnit.{ReceivedAccessUnitValue}
 use Rattle.h26x_access_units.specs.Reception.{Reception, has_no_unit, is_one_taken, is_taken_at_once, after_reception, without_bare, IsDueTaken, IsDrained, none, bare, more, behind, IsDrainedInPart}
 use Rattle.h26x_access_units.specs.Account.{ReceiverCall, PushCall, BackCall, NextCall, LackCall, FinishCall, RestartCall, SettingsCall, BeginCall, IsCall, AreReceiverCalls, no_call, one_call}
-use Rattle.h26x_access_units.specs.WholeSent.{bears_slice, nothing_written, sent_at, sent_number, sent_payloads, IsSentAt, IsUnitFront, IsWrittenOf}
+use Rattle.h26x_access_units.specs.WholeSent.{bears_slice, nothing_written, sent_at, sent_number, sent_payloads, IsSentAt, IsUnitFront, IsFrontNumber, IsWrittenOf}
 
 -- What a receiver does by its calls: it takes a packet; it passes over one that is refused, late or
 -- empty; the access unit that is open ends before a packet that begins another one; it ends with the
@@ -128,27 +128,46 @@ due_passed None place = None
 due_passed (Some due) place = Some (due_taken (Some due) place)
 
 -- What was done since all was dropped is of a sender: each packet is one that was sent, and came in
--- time; and a number is told only of a stream that begins. The place is the one behind the furthest
--- packet since one was taken, in this stream.
-pub data AreOfSender (sent : List RtpBody) (first : ℕ) : Option ℕ → List Deed → Type 0 where
-  none_done : AreOfSender sent first None []
+-- time; and a number is told only of a stream that begins, of which so much is known, and of the place
+-- that is due then. The place is the one behind the furthest packet since one was taken, in this
+-- stream.
+pub data AreOfSenderBy (Told : ℕ → Option ℕ → Type 0) (sent : List RtpBody) (first : ℕ) :
+    Option ℕ → List Deed → Type 0 where
+  none_done : AreOfSenderBy Told sent first None []
   took_packet : {due : Option ℕ} {before : List Deed} (p : ℕ × RtpBody)
       (at : IsSentAt sent first p) → IsInTime due at.place →
-      AreOfSender sent first due before →
-      AreOfSender sent first (Some (due_taken due at.place)) (TookPacket p ∷ before)
+      AreOfSenderBy Told sent first due before →
+      AreOfSenderBy Told sent first (Some (due_taken due at.place)) (TookPacket p ∷ before)
   passed_packet : {due : Option ℕ} {before : List Deed} (p : ℕ × RtpBody)
       (at : IsSentAt sent first p) → IsInTime due at.place →
-      AreOfSender sent first due before →
-      AreOfSender sent first (due_passed due at.place) (PassedPacket p ∷ before)
+      AreOfSenderBy Told sent first due before →
+      AreOfSenderBy Told sent first (due_passed due at.place) (PassedPacket p ∷ before)
   ended_before_packet : {due : Option ℕ} {before : List Deed} (p : ℕ × RtpBody)
       (at : IsSentAt sent first p) → IsInTime due at.place →
-      AreOfSender sent first due before →
-      AreOfSender sent first None (EndedBefore p ∷ before)
-  ended_its_stream : {due : Option ℕ} {before : List Deed} → AreOfSender sent first due before →
-      AreOfSender sent first None (EndedStream ∷ before)
-  told_its_first : {before : List Deed} (number : ℕ) → is_stream_new before ≡ true →
-      AreOfSender sent first None before → AreOfSender sent first None (ToldFirst number ∷ before)
-  dropped_before : (before : List Deed) → AreOfSender sent first None (DroppedAll ∷ before)
+      AreOfSenderBy Told sent first due before →
+      AreOfSenderBy Told sent first None (EndedBefore p ∷ before)
+  ended_its_stream : {due : Option ℕ} {before : List Deed} →
+      AreOfSenderBy Told sent first due before →
+      AreOfSenderBy Told sent first None (EndedStream ∷ before)
+  told_its_first : {due : Option ℕ} {before : List Deed} (number : ℕ) → Told number due →
+      is_stream_new before ≡ true →
+      AreOfSenderBy Told sent first None before →
+      AreOfSenderBy Told sent first due (ToldFirst number ∷ before)
+  dropped_before : (before : List Deed) → AreOfSenderBy Told sent first None (DroppedAll ∷ before)
+
+-- so it is where any number may be told: no place is due then
+abbrev pub AreOfSender : List RtpBody → ℕ → Option ℕ → List Deed → Type 0
+AreOfSender sent first due deeds = AreOfSenderBy (λ number place. place ≡ None) sent first due deeds
+
+-- a number is that of a place at which an access unit begins, and that is due
+pub record IsFrontDue (sent : List RtpBody) (first number : ℕ) (due : Option ℕ) : Type 0 where
+  pub front : IsFrontNumber sent first number
+  pub due_is : due ≡ Some front.place
+
+-- so it is where each number that is told is that of such a place
+abbrev pub AreOfSenderAtFronts : List RtpBody → ℕ → Option ℕ → List Deed → Type 0
+AreOfSenderAtFronts sent first due deeds =
+    AreOfSenderBy (IsFrontDue sent first) sent first due deeds
 
 -- a packet was taken, that of this place
 abbrev pub took_place : List RtpBody → ℕ → ℕ → Deed

@@ -378,6 +378,55 @@ fn take_unmarked<D: RunDepacketizer>(
     )
 }
 
+/// Takes a packet that is due as [`take_noted`] does, a copy of it that has its marker where that is
+/// believed.
+#[cold]
+#[inline(never)]
+fn take_unbelieved<D: RunDepacketizer>(
+    assembler: &mut AccessUnitAssembler<D>,
+    ended: &mut Vec<AccessUnit>,
+    framing: &mut Framing,
+    numbers: &mut NumbersSoFar,
+    counts: &mut Counts,
+    at: Framing,
+    packet: &RtpPacket<'_>,
+) -> Result<Received, PacketError>
+    ensures answer { IsAnswerTo assembler.old.packets.run_limit
+        (assembly_at D.state assembler.old ended.old.items) (believed at packet.now) result }
+    ensures after { lacks_memory result ≡ false → assembly_at D.state assembler.new ended.new.items
+        ≡ marker_forgotten (assembly_after assembler.old.packets.run_limit assembler.old.unit_limit
+        (assembly_at D.state assembler.old ended.old.items) (believed at packet.now) result) }
+    ensures framing { lacks_memory result ≡ false → framing.new
+        ≡ framing_answered framing.old at (believed at packet.now) result }
+    ensures numbers { lacks_memory result ≡ false → numbers.new ≡ numbers_answered
+        (assembly_at D.state assembler.old ended.old.items) numbers.old at
+        (believed at packet.now) result }
+    ensures counts { let s = assembly_at D.state assembler.old ended.old.items in
+        lacks_memory result ≡ false → counts.new ≡ counts_answered s counts.old at
+        (believed at packet.now) packet.now.1.marker
+        (is_text_given_up assembler.old.packets.run_limit assembler.old.unit_limit s
+        (believed at packet.now)) result }
+    ensures limit { assembler.new.packets.run_limit ≡ assembler.old.packets.run_limit }
+    ensures unit_limit { assembler.new.unit_limit ≡ assembler.old.unit_limit }
+    ensures kept { lacks_memory result ≡ true → assembly_at D.state assembler.new ended.new.items
+        ≡ assembly_at D.state assembler.old ended.old.items }
+    ensures kept_framing { lacks_memory result ≡ true → framing.new ≡ framing.old }
+    ensures kept_numbers { lacks_memory result ≡ true → numbers.new ≡ numbers.old }
+    ensures kept_counts { lacks_memory result ≡ true → counts.new ≡ counts.old }
+{
+    let taken = believed(at, packet);
+    take_noted(
+        assembler,
+        ended,
+        framing,
+        numbers,
+        counts,
+        at,
+        &taken,
+        packet.marker,
+    )
+}
+
 /// Takes a packet that is due as [`take_noted`] does, with its marker where that is believed.
 #[inline(always)]
 fn take_seen<D: RunDepacketizer>(
@@ -419,17 +468,19 @@ fn take_seen<D: RunDepacketizer>(
         return take_unmarked(assembler, ended, framing, numbers, counts, packet);
     }
     let at = framing_of(assembler, *framing, numbers, packet);
-    let taken = believed(at, packet);
-    take_noted(
-        assembler,
-        ended,
-        framing,
-        numbers,
-        counts,
-        at,
-        &taken,
-        packet.marker,
-    )
+    if at.believes(packet.marker) {
+        return take_noted(
+            assembler,
+            ended,
+            framing,
+            numbers,
+            counts,
+            at,
+            packet,
+            packet.marker,
+        );
+    }
+    take_unbelieved(assembler, ended, framing, numbers, counts, at, packet)
 }
 
 /// Takes a packet that is due as [`take_seen`] does. Where no number is expected its own is, if it

@@ -149,15 +149,16 @@ impl JitterBuffer {
     }
 
     /// Whether a number is more than a window, and than 100, ahead of the newest that waits, or of the
-    /// one that is due where none waits, and not late.
+    /// one that is due where none waits, and not late. One that is near the one that is due isn't,
+    /// whatever waits.
+    #[inline]
     pub fn is_ahead(&self, number: u16) -> bool
         ensures ahead { result ≡ is_ahead self.now.buffer number }
         ensures held { result ≡ true → push_answer self.now.buffer number ≡ buffered.Held }
     {
         match self.buffer.due() {
-            Some(due) if self.buffer.is_beyond(number) => {
-                number.wrapping_sub(self.buffer.newest(due)) > self.reach()
-            }
+            Some(due) if number.wrapping_sub(due) > MAX_MISORDER && self.buffer.is_beyond(number) =>
+                { number.wrapping_sub(self.buffer.newest(due)) > self.reach() }
             _ => false,
         }
     }
@@ -388,6 +389,7 @@ impl JitterBuffer {
     }
 
     /// Whether the first packet isn't to wait for those before it.
+    #[inline]
     fn is_pressed(&self, now: u32) -> bool
         ensures { result ≡ is_pressed now self.now }
     {
@@ -395,6 +397,7 @@ impl JitterBuffer {
     }
 
     /// For how long a packet waits at most: one that begins the stream for its own time.
+    #[inline]
     fn longest_wait(&self) -> u32
         ensures { result ≡ longest_wait self.now }
     {
@@ -406,14 +409,16 @@ impl JitterBuffer {
     }
 
     /// Whether the packet that waits longest has waited long enough.
+    #[inline]
     fn has_waited(&self, now: u32) -> bool
         ensures { result ≡ has_waited (longest_wait self.now) now self.now.arrivals }
     {
+        let longest = self.longest_wait();
+        if longest == u32::MAX {
+            return false;
+        }
         match self.arrivals.front() {
-            Some(arrival) => {
-                let longest = self.longest_wait();
-                longest != u32::MAX && now.wrapping_sub(arrival.at) >= longest
-            }
+            Some(arrival) => now.wrapping_sub(arrival.at) >= longest,
             None => false,
         }
     }
@@ -423,7 +428,7 @@ impl JitterBuffer {
     pub fn first_due(&self, now: u32) -> Option<&HeldPacket>
         ensures { option_map (λ p. numbered_packet p.now) result ≡ due_packet now self.now }
     {
-        if self.is_pressed(now) || self.buffer.is_ready() {
+        if self.buffer.is_ready() || self.is_pressed(now) {
             self.buffer.first()
         } else {
             None

@@ -17,7 +17,7 @@ ghost use Rattle.h26x_access_units.specs.Decodable.{GivenUnit, IsCleanWhereDecod
 ghost use Rattle.h26x_access_units.specs.Account.{ReceiverCall, NextCall, AreReceiverCalls, IsAccounted, kept_packets};
 ghost use Rattle.h26x_access_units.specs.WholeSent.{told_numbers, since_restart, IsToldWhole, IsSender, CameFromSender, WasSent};
 ghost use Rattle.h26x_access_units.specs.UnitsSent.{AreNeighboursApart, IsOneSent, IsWrittenAsSent, call_units, told_unit};
-ghost use Rattle.h26x_access_units.specs.ToldWhole.{all_deeds, are_told_first, AreOfSender, settings_set, IsUnitSent, WereAllTaken, WereTakenWithoutLoss, CanBeWritten, WasToldWhole};
+ghost use Rattle.h26x_access_units.specs.ToldWhole.{all_deeds, are_told_first, AreOfSender, AreOfSenderAtFronts, settings_set, IsUnitSent, WereAllTaken, WereTakenWithoutLoss, CanBeWritten, WasToldWhole};
 ghost use Rattle.h26x_access_units.specs.Passed.{is_told_taken, AreNumbers, AreSoonBehind};
 ghost use Rattle.h26x_access_units.specs.declared.nacks.Nack.{Nack};
 ghost use Rattle.h26x_access_units.specs.Nacks.{nacks_now, nack_among, AreNumbersInOrder};
@@ -150,6 +150,24 @@ pub fn what_is_told_whole_was_sent()
     model_laws::depacketizers_go_on();
 }
 
+/// Whole means sent, in a session of any length, of which numbers go round as often as they do. Of a
+/// sender whose access units are told apart, an access unit that is told whole is one of those that
+/// were sent: all packets with its timestamp, one behind the other, and its bytes are what a
+/// depacketizer writes of all of them. All since the last `restart` is of this sender: fewer than 2^15
+/// packets are lost at a time, each comes less than 2^15 places behind the furthest, and numbers are
+/// told only of a stream that begins, with an access unit.
+pub fn what_is_told_whole_was_sent_in_any_session()
+    ensures { (config : AccessUnitConfig) (state : DepacketizerState) (now : ℕ)
+        (unit : ReceivedAccessUnitValue) (calls : List ReceiverCall) (s : Reception)
+        (sent : List RtpBody) (first : ℕ) (due : Option ℕ) (are : AreReceiverCalls
+        (fresh_reception config state) (NextCall now (Some unit) ∷ calls) s) →
+        IsPayloadFormat state.format → IsSender state sent →
+        AreOfSenderAtFronts sent first due (all_deeds are) → unit.is_whole ≡ true →
+        WasSent state sent first unit }
+{
+    model_laws::depacketizers_go_on();
+}
+
 /// Sent means told whole. Of a sender whose access units are told apart, an access unit all of whose
 /// packets were taken, one right behind the other from its beginning to its end, is given out and told
 /// whole, and its bytes are what a depacketizer writes of all of them: once `next` was called until
@@ -193,14 +211,21 @@ pub fn none_is_left_once_none_is_given_out()
 
 /// All that a receiver does since the last `restart` is done with packets that were kept since: where
 /// these are a sender's, of at most 2^15 packets, and numbers are told only of a stream that begins, it
-/// is done with packets of that sender.
+/// is done with packets of that sender, which come in time; and each number that is told is that of a
+/// place that is due, at which an access unit begins.
 pub fn what_is_done_is_of_the_sender()
-    ensures { (config : AccessUnitConfig) (state : DepacketizerState) (calls : List ReceiverCall)
-        (s : Reception) (sent : List RtpBody) (first : ℕ)
+    ensures sender { (config : AccessUnitConfig) (state : DepacketizerState)
+        (calls : List ReceiverCall) (s : Reception) (sent : List RtpBody) (first : ℕ)
         (are : AreReceiverCalls (fresh_reception config state) calls s) →
         CameFromSender (told_numbers (since_restart calls)) (kept_packets (since_restart calls))
         state sent first → are_told_first (all_deeds are) ≡ true →
         (due : Option ℕ) × AreOfSender sent first due (all_deeds are) }
+    ensures fronts { (config : AccessUnitConfig) (state : DepacketizerState)
+        (calls : List ReceiverCall) (s : Reception) (sent : List RtpBody) (first : ℕ)
+        (are : AreReceiverCalls (fresh_reception config state) calls s) →
+        CameFromSender (told_numbers (since_restart calls)) (kept_packets (since_restart calls))
+        state sent first → are_told_first (all_deeds are) ≡ true →
+        (due : Option ℕ) × AreOfSenderAtFronts sent first due (all_deeds are) }
 {}
 
 /// What was sent so is one of a sender's access units, where each has a packet, and neighbours have

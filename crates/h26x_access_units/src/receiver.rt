@@ -7,9 +7,10 @@ ghost use Rattle.h26x_reorder.specs.ReorderBuffer.{numbered_packet, push_answer}
 ghost use Rattle.h26x_reorder.specs.declared.pushed.Pushed.TheVariants as buffered;
 ghost use Rattle.h26x_access_units.specs.Pushed.{IsNotPushedReason, is_kept, not_pushed_reason};
 ghost use Rattle.h26x_access_units.specs.JitterBuffer.{may_tell_first};
+ghost use Rattle.h26x_assembler.specs.AccessUnit.{units_so_far_value};
 ghost use Rattle.h26x_assembler.specs.Assembler.{assembly_at};
 ghost use Rattle.h26x_access_units.specs.ReceivedAccessUnit.{received_unit_value};
-ghost use Rattle.h26x_access_units.specs.Reception.{fresh_reception, begun_reception, is_behind_missing, ends_before, reception_answer, has_no_unit, has_bare, has_unit, first_passed, without_bare, ended_if_anew, ended_if_over, restarted, unit_given, without_given, is_taken_at_once, is_idle, IsDrained, after_reception, way_of, IsPushAnswer, IsPutAside, refused_reception, IsTakenAsDue, IsDueTakenOrNone, FollowsWhereDue, IsEndedOrFollows, IsStepOrNone, IsStepInPart, NoneIsDueUnlessEnded, IsPushedIfOk, ended_reception, IsDrainedInPart, GivesNext, nack_numbers, AreExactNacks, next_deadline, settings, with_settings};
+ghost use Rattle.h26x_access_units.specs.Reception.{fresh_reception, open_units, begun_reception, is_behind_missing, ends_before, reception_answer, has_no_unit, has_bare, has_unit, first_passed, without_bare, ended_if_anew, ended_if_over, restarted, unit_given, without_given, is_taken_at_once, is_idle, IsDrained, after_reception, way_of, IsPushAnswer, IsPutAside, refused_reception, IsTakenAsDue, IsDueTakenOrNone, FollowsWhereDue, IsEndedOrFollows, IsStepOrNone, IsStepInPart, NoneIsDueUnlessEnded, IsPushedIfOk, ended_reception, IsDrainedInPart, GivesNext, nack_numbers, AreExactNacks, next_deadline, settings, with_settings};
 ghost use Rattle.h26x_access_units.specs.Limits.{StaysWithinLimits};
 
 use crate::anew::anew_with;
@@ -24,7 +25,7 @@ use crate::passed::PassedNumbers;
 use crate::pushed::{NotPushed, NotPushedReason, Pushed};
 use crate::unit::{self, ReceivedAccessUnit, remove_first};
 use crate::way::Way;
-use h26x_assembler::{AccessUnit, AccessUnitAssembler};
+use h26x_assembler::{AccessUnit, AccessUnitAssembler, UnitsSoFar};
 use h26x_core::PacketError;
 use h26x_depacketizer::RunDepacketizer;
 use h26x_receiver::SequencedDepacketizer;
@@ -784,6 +785,20 @@ impl<D: RunDepacketizer> AccessUnitReceiver<D> {
         ensures memory { OnErr result (result ≡ Err PacketError.OutOfMemory) }
     {
         Ok(self.waiting.missing()?)
+    }
+
+    /// The NAL units that came whole so far of the access unit that is open: for who decodes each as
+    /// soon as it is complete. There are none where `next` hasn't given out what ended before. Later
+    /// packets put units behind these, until `next` gives out the access unit, with what is told of the
+    /// whole. A text of more than `unit_limit` bytes is given up.
+    pub fn units_so_far(&self) -> Option<UnitsSoFar<'_>>
+        ensures { let r = ⟦<Self as Receives>⟧.reception in
+            option_map units_so_far_value result ≡ open_units (r self.now) }
+    {
+        if self.has_ended() {
+            return None;
+        }
+        self.assembler.unit.units_so_far()
     }
 
     /// When to call `next` again at the latest, in the caller's ticks, if packets wait.

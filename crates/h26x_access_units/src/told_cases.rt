@@ -17,7 +17,7 @@ ghost use Rattle.h26x_access_units.specs.ReceivedAccessUnit.{ReceivedAccessUnitV
 ghost use Rattle.h26x_access_units.specs.Reception.{Reception, fresh_reception, IsDueTaken, IsDrained, IsEndedBefore, none, bare, more, behind};
 ghost use Rattle.h26x_access_units.specs.Account.{NextCall, FinishCall, RestartCall, SettingsCall, BeginCall, IsCall};
 ghost use Rattle.h26x_access_units.specs.WholeSent.{bears_slice, IsWrittenOf};
-ghost use Rattle.h26x_access_units.specs.ToldWhole.{TookPacket, PassedPacket, EndedBefore, EndedStream, ToldFirst, DroppedAll, packet_deed, drained_deeds, stream_deeds, push_deeds, call_deeds, is_stream_new, are_told_first, took_none, open_stamp, AreOfSender, took_places, settings_set, units_given, IsInTime, due_taken, due_passed, sent_text, IsUnitSent, IsBegunSo, IsEndedSo, WereAllTaken, WereTakenWithoutLoss, CanBeWritten, WasToldWhole};
+ghost use Rattle.h26x_access_units.specs.ToldWhole.{TookPacket, PassedPacket, EndedBefore, EndedStream, ToldFirst, DroppedAll, packet_deed, drained_deeds, stream_deeds, push_deeds, call_deeds, is_stream_new, are_told_first, took_none, open_stamp, AreOfSender, AreOfSenderAtFronts, took_places, settings_set, units_given, IsInTime, due_taken, due_passed, sent_text, IsUnitSent, IsBegunSo, IsEndedSo, WereAllTaken, WereTakenWithoutLoss, CanBeWritten, WasToldWhole};
 
 /// A packet is taken that has a payload and isn't late; others, and those refused, are passed over.
 pub fn packets_that_are_taken()
@@ -127,6 +127,7 @@ pub fn deeds_with_packets_of_a_sender()
         (TookPacket (8, rtp_body 4 true (1 ∷ [])) ∷ []) → ⊥ }
     ensures behind { (due : Option ℕ) → let b = rtp_body 4 true (1 ∷ []) in AreOfSender (b ∷ []) 7 due
         (ToldFirst 8 ∷ TookPacket (7, b) ∷ []) → ⊥ }
+    ensures told { AreOfSender (rtp_body 4 true (1 ∷ []) ∷ []) 7 (Some 0) (ToldFirst 7 ∷ []) → ⊥ }
     ensures before { let b = rtp_body 4 true (1 ∷ []) in AreOfSender (b ∷ []) 7 (Some 1)
         (TookPacket (7, b) ∷ DroppedAll ∷ TookPacket (8, rtp_body 4 true (2 ∷ [])) ∷ []) }
     ensures late { let a = rtp_body 4 true (1 ∷ []) in let b = rtp_body 5 true (1 ∷ []) in
@@ -137,6 +138,25 @@ pub fn deeds_with_packets_of_a_sender()
     ensures places { let b = rtp_body 5 false (2 ∷ []) in let c = rtp_body 5 true (3 ∷ []) in
         took_places (rtp_body 4 true (1 ∷ []) ∷ b ∷ c ∷ []) 65535 1 2
         ≡ TookPacket (1, c) ∷ TookPacket (0, b) ∷ [] }
+{}
+
+/// A number that is told is that of a place at which an access unit begins, which is due then: what
+/// comes is in time of it. None is told within an access unit, behind a packet, or of no place.
+pub fn numbers_told_of_fronts()
+    ensures told { AreOfSenderAtFronts (rtp_body 4 true (1 ∷ []) ∷ rtp_body 5 true (1 ∷ []) ∷ []) 65535
+        (Some 1) (ToldFirst 0 ∷ []) }
+    ensures taken { let b = rtp_body 5 true (1 ∷ []) in
+        AreOfSenderAtFronts (rtp_body 4 true (1 ∷ []) ∷ b ∷ []) 65535
+        (Some 2) (TookPacket (0, b) ∷ ToldFirst 0 ∷ EndedStream ∷ []) }
+    ensures due { AreOfSenderAtFronts (rtp_body 4 true (1 ∷ []) ∷ rtp_body 5 true (1 ∷ []) ∷ []) 65535
+        None (ToldFirst 0 ∷ []) → ⊥ }
+    ensures within { (due : Option ℕ) → AreOfSenderAtFronts (rtp_body 4 false (1 ∷ [])
+        ∷ rtp_body 4 true (1 ∷ []) ∷ []) 65535 due (ToldFirst 0 ∷ []) → ⊥ }
+    ensures behind { (due : Option ℕ) → let a = rtp_body 4 true (1 ∷ []) in
+        AreOfSenderAtFronts (a ∷ rtp_body 5 true (1 ∷ []) ∷ []) 65535 due
+        (ToldFirst 0 ∷ TookPacket (65535, a) ∷ []) → ⊥ }
+    ensures unsent { (due : Option ℕ) → AreOfSenderAtFronts (rtp_body 4 true (1 ∷ []) ∷ []) 7 due
+        (ToldFirst 8 ∷ []) → ⊥ }
 {}
 
 /// Where nothing tells the number of an access unit's first packet it begins by its first unit: a

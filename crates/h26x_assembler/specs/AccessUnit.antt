@@ -7,16 +7,18 @@ use Rattle.h26x_core.specs.declared.extra.CodecExtra.TheVariants as extras
 use Rattle.h26x_core.specs.declared.error.PacketError.{PacketError}
 use Rattle.h26x_core.specs.declared.error.PacketError.TheVariants.{OutOfMemory}
 use Rattle.h26x_model.specs.Payload.Reading.{Reading, is_start}
-use Rattle.h26x_model.specs.Receive.DepacketizerState.{DepacketizerState, Depacketization}
+use Rattle.h26x_core.specs.ByteStream.{byte_stream}
+use Rattle.h26x_model.specs.Receive.DepacketizerState.{DepacketizerState, Depacketization, units_brought}
 use Rattle.h26x_model.specs.Receive.RunLimit.{run_len, state_with_run}
 use Rattle.h26x_receiver.specs.declared.received.Received.{Received}
 use Rattle.h26x_receiver.specs.declared.sequenced.SequencedDepacketizer.{SequencedDepacketizer}
 use Rattle.h26x_receiver.specs.declared.received.Received.TheVariants.{TooLong, Late}
 use Rattle.h26x_core.specs.Sequence.{is_expected, is_late, next_sequence_number}
-use Rattle.h26x_receiver.specs.Sequenced.{SequencedDepacketization, sequenced_depacketization, after_sequenced_packet, after_taken_packet, IsSequencedAnswer, expected_after_skip, is_run_kept}
+use Rattle.h26x_receiver.specs.Sequenced.{SequencedDepacketization, sequenced_depacketization, after_sequenced_packet, after_taken_packet, IsSequencedAnswer, expected_after_skip, is_run_kept, with_run_if}
 use Rattle.h26x_reorder.specs.Rtp.{RtpBody, rtp_body}
 use Rattle.h26x_assembler.specs.declared.access_unit.AccessUnit.{AccessUnit}
 use Rattle.h26x_assembler.specs.declared.access_unit.AccessUnitSoFar.{AccessUnitSoFar}
+use Rattle.h26x_assembler.specs.declared.access_unit.UnitsSoFar.{UnitsSoFar}
 
 -- an access unit as an assembler gives it out: its timestamp, the text of its units, what is told
 -- of them, and whether it is known that nothing of it is missing
@@ -43,6 +45,21 @@ open_unit_value unit = record {
   extra = unit.extra;
   is_whole = unit.is_whole;
 }
+
+-- what is shown of it: its timestamp, the text of its units that came whole, and what is told of them
+pub record OpenUnits : Type 0 where
+  pub timestamp : ℕ
+  pub bytes : List ℕ
+  pub extra : CodecExtra
+
+abbrev pub open_units_of : AccessUnitValue → OpenUnits
+open_units_of unit =
+    record { timestamp = unit.timestamp; bytes = unit.bytes; extra = unit.extra }
+
+-- that of the code, its bytes as a list
+abbrev pub units_so_far_value : UnitsSoFar → OpenUnits
+units_so_far_value unit =
+    record { timestamp = unit.timestamp; bytes = unit.bytes.now; extra = unit.extra }
 
 -- the access unit that is open, if one is, the run that is open, whether packets are missing right
 -- before those numbers that were skipped last, and the timestamp of the access unit that the marker of
@@ -247,6 +264,13 @@ unit_with most s p = whole_if (is_sound most s p) (record (unit_at s.unit p.1.ti
   bytes = (after_taken_packet most (taken_by s p.1.timestamp) p.0 p.1.payload).at_work.out;
   extra = (after_taken_packet most (taken_by s p.1.timestamp) p.0 p.1.payload).at_work.extra;
 })
+
+-- a packet that was taken leaves what its access unit has at the front, and puts the units that it
+-- completes behind it
+abbrev pub AppendsUnits : ℕ → Assembly → ℕ × RtpBody → Type 0
+AppendsUnits most s p = (unit_with most s p).bytes ≡ (unit_at s.unit p.1.timestamp).bytes
+    ++ byte_stream s.state.is_avc (units_brought (with_run_if (is_expected s.expected p.0)
+    (taken_by s p.1.timestamp).at_work).state (p.1.payload ∷ []))
 
 -- an access unit whose text was given up, since it is longer than the limit
 abbrev pub without_text : AccessUnitValue → AccessUnitValue

@@ -1,10 +1,11 @@
 //! Access units, and the one that is open.
 
+ghost use Rattle.std.specs.Option.{option_map};
 ghost use Rattle.std.specs.Prelude.{◌≡◌, ◌+◌, ◌≤◌, ◌==◌, ℕ, Ok, nat_lt, ◌&&◌, ◌||◌, ◌++◌, ◌∷◌, [], if◌then◌else◌, true, false, None, Some, length, vec_len, vec_capacity, is_some};
 ghost use Rattle.h26x_model.specs.Payload.Reading.{is_start};
 ghost use Rattle.h26x_model.specs.Receive.RunLimit.{run_len};
 ghost use Rattle.h26x_receiver.specs.Sequenced.{IfTaken, UnlessTaken};
-ghost use Rattle.h26x_assembler.specs.AccessUnit.{access_unit_value, open_unit_value, open_unit_view, empty_unit, whole_if, one_open, none_open, without_marker, behind_gap, is_following, is_run_closed, unit_len, unit_within, is_unit_at, given_out, after_taken_rtp, parts_at, IsTakenAnswerAt, unit_views};
+ghost use Rattle.h26x_assembler.specs.AccessUnit.{access_unit_value, units_so_far_value, open_units_of, open_unit_value, open_unit_view, empty_unit, whole_if, one_open, none_open, without_marker, behind_gap, is_following, is_run_closed, unit_len, unit_within, is_unit_at, given_out, after_taken_rtp, parts_at, IsTakenAnswerAt, unit_views};
 ghost use Rattle.h26x_depacketizer.specs.OpenText.{IsGivenBack};
 ghost use Rattle.h26x_depacketizer.specs.RunDepacketizer.{RunStaysWithin};
 
@@ -158,6 +159,17 @@ impl AccessUnitSoFar {
     }
 }
 
+/// What came so far of an access unit that is open.
+#[derive(Debug, Clone, Copy)]
+pub struct UnitsSoFar<'a> {
+    /// The timestamp of its packets (RFC 3550, 5.1).
+    pub timestamp: u32,
+    /// The text of its units that came whole, in order: packets put further ones behind it.
+    pub bytes: &'a [u8],
+    /// What is told of these; `CodecExtra::None` where there is none.
+    pub extra: CodecExtra,
+}
+
 /// The access unit that is open, if one is: the next packet may belong to it. And the run that is
 /// open, in its text, or left by the last one; whether packets are missing right before the numbers
 /// that were skipped last; and the timestamp of the one that the marker of the last packet ended.
@@ -198,6 +210,20 @@ impl OpenAccessUnit {
         ensures { result ≡ is_some self.now.unit }
     {
         self.unit.is_some()
+    }
+
+    /// The units of it that came whole; `None` where none is open.
+    pub fn units_so_far(&self) -> Option<UnitsSoFar<'_>>
+        ensures { option_map units_so_far_value result ≡ option_map open_units_of self.now.unit }
+    {
+        match &self.unit {
+            Some(unit) => Some(UnitsSoFar {
+                timestamp: unit.timestamp,
+                bytes: unit.text.text(),
+                extra: unit.extra,
+            }),
+            None => None,
+        }
     }
 
     /// How many bytes of whole units it holds; none where none is open.

@@ -4,11 +4,12 @@ ghost use Rattle.std.specs.Prelude.{◌≡◌, ℕ, Bool, List, [], ◌∷◌};
 ghost use Rattle.h26x_model.specs.Payload.Facts.{IsPayloadFormat};
 ghost use Rattle.h26x_model.specs.Send.PacketizerState.{PacketizerState};
 ghost use Rattle.h26x_model.specs.Receive.DepacketizerState.{Depacketization};
-ghost use Rattle.h26x_assembler.specs.AccessUnit.{AccessUnitValue, Assembly, UnitSkipsInOrder};
+ghost use Rattle.h26x_assembler.specs.AccessUnit.{AccessUnitValue, AppendsUnits, Assembly, UnitSkipsInOrder};
 ghost use Rattle.h26x_assembler.specs.AnyUnits.{GivesOutAnyBrought};
 ghost use Rattle.h26x_assembler.specs.StampedCalls.{StampedCall, GivesOutThoseLeft, GivesOutThoseBrought, WholeOnesAreSent, AreGivenOut, AreUnitsWithin, AreStreamed, IsLeftWhole};
 ghost use Rattle.h26x_assembler.specs.Network.{UnitsComeThrough, ComeNear};
 ghost use Rattle.h26x_reorder.specs.ReorderBuffer.{OfWindow};
+ghost use Rattle.h26x_reorder.specs.Rtp.{RtpBody};
 
 use h26x_model::laws as model_laws;
 use h26x_receiver::laws;
@@ -37,6 +38,12 @@ pub fn access_units_are_those_left()
     model_laws::nothing_is_damaged();
     model_laws::packetizers_go_on();
 }
+
+/// What came of an access unit stays at its front: a packet that is taken puts the units behind it that
+/// it completes.
+pub fn packets_append_units()
+    ensures { (most : ℕ) (s : Assembly) (p : ℕ × RtpBody) → AppendsUnits most s p }
+{}
 
 /// A number that came in order and bears nothing of the stream changes only what is expected next.
 pub fn skipping_in_order_changes_only_the_number()

@@ -9,6 +9,6 @@ mod assembler;
 pub mod laws;
 mod spare;
 
-pub use access_unit::{AccessUnit, OpenAccessUnit};
+pub use access_unit::{AccessUnit, OpenAccessUnit, UnitsSoFar};
 pub use assemble::assemble_all;
 pub use assembler::AccessUnitAssembler;

@@ -27,7 +27,7 @@ use Rattle.h26x_codec.specs.declared.any_packetizer.AnyPacketizer.TheVariants as
 -- what it is to the definitions
 abbrev pub any_packetizer_state : AnyPacketizer → PacketizerState
 any_packetizer_state (s.H264 it) = packetizer_state h264 it
-any_packetizer_state (s.H265 it) = packetizer_state (h265_setting.setting_format it.codec) it
+any_packetizer_state (s.H265 it) = packetizer_state (h265_setting.sending_format it.codec) it
 any_packetizer_state (s.H266 it) = packetizer_state (h266_setting.setting_format it.codec) it
 
 -- its codec
@@ -40,9 +40,17 @@ any_packetizer_codec (s.H266 it) = c.H266
 abbrev pub any_packetizer_with_donl : Bool → AnyPacketizer → AnyPacketizer
 any_packetizer_with_donl has_donl (s.H264 it) = s.H264 it
 any_packetizer_with_donl has_donl (s.H265 it) =
-    s.H265 (record it { codec = h265_setting.setting has_donl; next_don = 0 })
+    s.H265 (record it { codec = h265_setting.sending_with_donl has_donl it.codec; next_don = 0 })
 any_packetizer_with_donl has_donl (s.H266 it) =
     s.H266 (record it { codec = h266_setting.setting has_donl; next_don = 0 })
+
+-- the same with the header of the sets themselves, where they share a packet, or with that of the unit
+-- behind them; that of H.266 has it in any case, and that of H.264 has neither layers nor temporal ids
+abbrev pub any_packetizer_with_lowest_header : Bool → AnyPacketizer → AnyPacketizer
+any_packetizer_with_lowest_header lowest_header (s.H264 it) = s.H264 it
+any_packetizer_with_lowest_header lowest_header (s.H265 it) =
+    s.H265 (record it { codec = h265_setting.sending_with_lowest_header lowest_header it.codec })
+any_packetizer_with_lowest_header lowest_header (s.H266 it) = s.H266 it
 
 -- the same with this largest packet size; that of H.264 has none
 abbrev pub any_packetizer_with_max_packet_size : ℕ → AnyPacketizer → AnyPacketizer
@@ -59,8 +67,8 @@ IsBehindPlaced made after old new = any_packetizer_state new
 -- its format where every unit goes
 abbrev pub any_every_format : AnyPacketizer → Format
 any_every_format (s.H264 it) = h264_every
-any_every_format (s.H265 it) = with_own_aggregates (h265_setting.setting_format it.codec)
-    (h265_setting.setting_aggregate it.codec)
+any_every_format (s.H265 it) = with_own_aggregates (h265_setting.sending_format it.codec)
+    (h265_setting.sending_aggregate it.codec)
 any_every_format (s.H266 it) = with_own_aggregates (h266_setting.setting_format it.codec)
     (h266_setting.setting_aggregate it.codec)
 

@@ -14,6 +14,7 @@ use Rattle.h264_payload.specs.H264.{h264}
 use Rattle.h264_payload.specs.declared.codec.H264.{H264}
 use Rattle.h265_packets.specs.declared.payload.H265Payload.{H265Payload}
 use Rattle.h265_payload.specs.H265.{h265, h265_header}
+use Rattle.h265_payload.specs.Sending.{h265_headed}
 use Rattle.h265_payload.specs.declared.codec.H265.{H265}
 use Rattle.h266_payload.specs.H266.{h266, h266_header}
 use Rattle.h266_payload.specs.declared.codec.H266.{H266}
@@ -34,6 +35,13 @@ abbrev pub codec_format : Codec → Bool → Format
 codec_format c.H264 has_donl = h264
 codec_format c.H265 has_donl = h265 has_donl
 codec_format c.H266 has_donl = h266 has_donl
+
+-- the same with the header of parameter sets themselves, where they share a packet, or with that of the
+-- unit behind them (RFC 7798, 4.4.2); H.266 has the first in any case
+abbrev pub codec_headed_format : Codec → Bool → Bool → Format
+codec_headed_format c.H264 has_donl lowest_header = h264
+codec_headed_format c.H265 has_donl lowest_header = h265_headed has_donl lowest_header
+codec_headed_format c.H266 has_donl lowest_header = h266 has_donl
 
 -- that without numbers
 abbrev pub default_format : Codec → Format

@@ -15,7 +15,7 @@ ghost use Rattle.h26x_codec.specs.AnyDepacketizer.{any_depacketizer_state, any_d
 ghost use Rattle.h26x_codec.specs.declared.any_depacketizer.AnyDepacketizer.TheVariants as a;
 ghost use Rattle.h26x_depacketizer.specs.RunDepacketizer.{IsSameBesideRun};
 
-use crate::codec::Codec;
+use crate::codec::{Codec, with_held};
 use h26x_core::{CodecExtra, Depacketizer, PacketError};
 use h26x_depacketizer::{OpenRun, OpenText, RunDepacketizer, RunRule, UnitSink, UnitTest};
 use h264_payload::H264Depacketizer;
@@ -73,11 +73,7 @@ impl AnyDepacketizer {
         ensures holds { run_len (any_depacketizer_state self.now).run ≤ result }
         ensures most { result ≤ run_memory (run_len (any_depacketizer_state self.now).run) }
     {
-        match self {
-            AnyDepacketizer::H264(it) => it.run_memory(),
-            AnyDepacketizer::H265(it) => it.run_memory(),
-            AnyDepacketizer::H266(it) => it.run_memory(),
-        }
+        with_held!(self, |it| it.run_memory())
     }
 
     /// The same depacketizer again, with its open run.
@@ -118,22 +114,14 @@ impl AnyDepacketizer {
     pub fn is_avc(&self) -> bool
         ensures { result ≡ any_depacketizer_avc self.now }
     {
-        match self {
-            AnyDepacketizer::H264(it) => it.is_avc,
-            AnyDepacketizer::H265(it) => it.is_avc,
-            AnyDepacketizer::H266(it) => it.is_avc,
-        }
+        with_held!(self, |it| it.is_avc)
     }
 
     /// Sets whether it writes units behind lengths or behind start codes.
     pub fn set_avc(&mut self, is_avc: bool)
         ensures { self.new ≡ any_depacketizer_with_avc is_avc self.old }
     {
-        match self {
-            AnyDepacketizer::H264(it) => it.is_avc = is_avc,
-            AnyDepacketizer::H265(it) => it.is_avc = is_avc,
-            AnyDepacketizer::H266(it) => it.is_avc = is_avc,
-        }
+        with_held!(self, |it| it.is_avc = is_avc)
     }
 
     /// Sets whether packets bear decoding order numbers; that of H.264 stays as it is.
@@ -178,11 +166,7 @@ impl AnyDepacketizer {
         ensures told_room { TellsRoom W.room W.lacks out.old out.new result
             (bytes_brought (any_depacketizer_state self.old) packet.now) }
     {
-        match self {
-            AnyDepacketizer::H264(it) => it.depacketize_into(packet, out, codec_extra),
-            AnyDepacketizer::H265(it) => it.depacketize_into(packet, out, codec_extra),
-            AnyDepacketizer::H266(it) => it.depacketize_into(packet, out, codec_extra),
-        }
+        with_held!(self, |it| it.depacketize_into(packet, out, codec_extra))
     }
 }
 
@@ -193,11 +177,7 @@ impl Depacketizer for AnyDepacketizer {
     fn out_size_hint(&self, packets_size: usize) -> Option<usize>
         ensures { result ≡ Some (size_hint packets_size) }
     {
-        match self {
-            AnyDepacketizer::H264(it) => it.out_size_hint(packets_size),
-            AnyDepacketizer::H265(it) => it.out_size_hint(packets_size),
-            AnyDepacketizer::H266(it) => it.out_size_hint(packets_size),
-        }
+        with_held!(self, |it| it.out_size_hint(packets_size))
     }
 
     /// Takes a packet, as the depacketizer that it holds does. A refusal leaves everything; the errors
@@ -238,11 +218,7 @@ impl Depacketizer for AnyDepacketizer {
         ensures h266 { (it : H266View) → self.now ≡ a.H266 it →
             result ≡ may_begin_h266 packet.now }
     {
-        match self {
-            AnyDepacketizer::H264(it) => it.is_partition_head(packet),
-            AnyDepacketizer::H265(it) => it.is_partition_head(packet),
-            AnyDepacketizer::H266(it) => it.is_partition_head(packet),
-        }
+        with_held!(self, |it| it.is_partition_head(packet))
     }
 
     /// Whether `packet` is the last of an access unit, as the depacketizer that it holds says.
@@ -253,11 +229,7 @@ impl Depacketizer for AnyDepacketizer {
         ensures h266 { (it : H266View) → self.now ≡ a.H266 it →
             result ≡ is_last_h266 marker packet.now }
     {
-        match self {
-            AnyDepacketizer::H264(it) => it.is_partition_tail(marker, packet),
-            AnyDepacketizer::H265(it) => it.is_partition_tail(marker, packet),
-            AnyDepacketizer::H266(it) => it.is_partition_tail(marker, packet),
-        }
+        with_held!(self, |it| it.is_partition_tail(marker, packet))
     }
 }
 
@@ -301,35 +273,19 @@ impl RunDepacketizer for AnyDepacketizer {
     }
 
     fn is_avc(&self) -> bool {
-        match self {
-            AnyDepacketizer::H264(depacketizer) => depacketizer.is_avc,
-            AnyDepacketizer::H265(depacketizer) => depacketizer.is_avc,
-            AnyDepacketizer::H266(depacketizer) => depacketizer.is_avc,
-        }
+        with_held!(self, |depacketizer| depacketizer.is_avc)
     }
 
     fn run_len(&self) -> usize {
-        match self {
-            AnyDepacketizer::H264(it) => it.run_len(),
-            AnyDepacketizer::H265(it) => it.run_len(),
-            AnyDepacketizer::H266(it) => it.run_len(),
-        }
+        with_held!(self, |it| it.run_len())
     }
 
     fn swap_run(&mut self, run: &mut OpenRun) {
-        match self {
-            AnyDepacketizer::H264(it) => it.swap_run(run),
-            AnyDepacketizer::H265(it) => it.swap_run(run),
-            AnyDepacketizer::H266(it) => it.swap_run(run),
-        }
+        with_held!(self, |it| it.swap_run(run))
     }
 
     fn give_up_run(&mut self) {
-        match self {
-            AnyDepacketizer::H264(it) => it.give_up_run(),
-            AnyDepacketizer::H265(it) => it.give_up_run(),
-            AnyDepacketizer::H266(it) => it.give_up_run(),
-        }
+        with_held!(self, |it| it.give_up_run())
     }
 
     #[inline]
@@ -350,42 +306,25 @@ impl RunDepacketizer for AnyDepacketizer {
         text: &mut OpenText,
         codec_extra: &mut CodecExtra,
     ) -> Result<(), PacketError> {
-        match self {
-            AnyDepacketizer::H264(it) => it.depacketize_in_text(rule, packet, text, codec_extra),
-            AnyDepacketizer::H265(it) => it.depacketize_in_text(rule, packet, text, codec_extra),
-            AnyDepacketizer::H266(it) => it.depacketize_in_text(rule, packet, text, codec_extra),
-        }
+        with_held!(
+            self,
+            |it| it.depacketize_in_text(rule, packet, text, codec_extra)
+        )
     }
 
     fn starts_run(&self, packet: &[u8]) -> bool {
-        match self {
-            AnyDepacketizer::H264(it) => it.starts_run(packet),
-            AnyDepacketizer::H265(it) => it.starts_run(packet),
-            AnyDepacketizer::H266(it) => it.starts_run(packet),
-        }
+        with_held!(self, |it| it.starts_run(packet))
     }
 
     fn extra(&self, key: bool) -> CodecExtra {
-        match self {
-            AnyDepacketizer::H264(it) => it.extra(key),
-            AnyDepacketizer::H265(it) => it.extra(key),
-            AnyDepacketizer::H266(it) => it.extra(key),
-        }
+        with_held!(self, |it| it.extra(key))
     }
 
     fn bears_unit<T: UnitTest>(&self, packet: &[u8], test: &T) -> bool {
-        match self {
-            AnyDepacketizer::H264(it) => it.bears_unit(packet, test),
-            AnyDepacketizer::H265(it) => it.bears_unit(packet, test),
-            AnyDepacketizer::H266(it) => it.bears_unit(packet, test),
-        }
+        with_held!(self, |it| it.bears_unit(packet, test))
     }
 
     fn first_unit_begun(&self, packet: &[u8]) -> Option<[u8; 3]> {
-        match self {
-            AnyDepacketizer::H264(it) => it.first_unit_begun(packet),
-            AnyDepacketizer::H265(it) => it.first_unit_begun(packet),
-            AnyDepacketizer::H266(it) => it.first_unit_begun(packet),
-        }
+        with_held!(self, |it| it.first_unit_begun(packet))
     }
 }

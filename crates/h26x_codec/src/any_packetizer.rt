@@ -8,9 +8,9 @@ ghost use Rattle.h26x_packetizer.specs.Group.{lent_units};
 ghost use Rattle.h26x_packetizer.specs.Sending.{contents};
 ghost use Rattle.h26x_packetizer.specs.Placement.{IsPlacement, IsSizeOf, is_placed};
 ghost use Rattle.h26x_codec.specs.Codec.{codec_format, fresh_packetizer_state};
-ghost use Rattle.h26x_codec.specs.AnyPacketizer.{any_packetizer_state, any_packetizer_codec, any_packetizer_with_donl, any_packetizer_with_max_packet_size, IsBehindPlaced, any_every_packets, any_units_refusal};
+ghost use Rattle.h26x_codec.specs.AnyPacketizer.{any_packetizer_state, any_packetizer_codec, any_packetizer_with_donl, any_packetizer_with_lowest_header, any_packetizer_with_max_packet_size, IsBehindPlaced, any_every_packets, any_units_refusal};
 
-use crate::codec::Codec;
+use crate::codec::{Codec, with_held};
 use h26x_core::PacketError;
 use h26x_packetizer::{EveryUnitError, PacketBuffer, PacketsSize, Packing, Placement, RefusedUnit};
 use h264_payload::H264Packetizer;
@@ -80,6 +80,17 @@ impl AnyPacketizer {
         }
     }
 
+    /// Sets whether parameter sets that share a packet of H.265 have the header of their own, or that
+    /// of the unit behind them (RFC 7798, 4.4.2); every other codec's stay as they are.
+    pub fn with_lowest_header(&mut self, lowest_header: bool)
+        ensures { self.new ≡ any_packetizer_with_lowest_header lowest_header self.old }
+    {
+        match self {
+            AnyPacketizer::H265(it) => it.with_lowest_header(lowest_header),
+            AnyPacketizer::H264(_) | AnyPacketizer::H266(_) => {}
+        }
+    }
+
     /// Sets the largest packet size, in bytes; that of H.264 stays as it is.
     pub fn with_max_packet_size(&mut self, bytes: u16)
         requires { 4 ≤ bytes }
@@ -112,11 +123,7 @@ impl AnyPacketizer {
         ensures free { payload_has_no_effect (any_packetizer_state self.old) mtu payload.now
             ≡ true → IsOk result }
     {
-        match self {
-            AnyPacketizer::H264(it) => it.packetize_into(mtu, payload, into),
-            AnyPacketizer::H265(it) => it.packetize_into(mtu, payload, into),
-            AnyPacketizer::H266(it) => it.packetize_into(mtu, payload, into),
-        }
+        with_held!(self, |it| it.packetize_into(mtu, payload, into))
     }
 
     /// Appends the packets of one unit as it is; a refusal leaves those that stood in the buffer.
@@ -141,11 +148,7 @@ impl AnyPacketizer {
         ensures free { one_unit_items (any_packetizer_state self.old) mtu unit.now ≡ [] →
             IsOk result }
     {
-        match self {
-            AnyPacketizer::H264(it) => it.packetize_unit_into(mtu, unit, into),
-            AnyPacketizer::H265(it) => it.packetize_unit_into(mtu, unit, into),
-            AnyPacketizer::H266(it) => it.packetize_unit_into(mtu, unit, into),
-        }
+        with_held!(self, |it| it.packetize_unit_into(mtu, unit, into))
     }
 
     /// The packets of the units of one access unit, none of which is left out, in order and as they
@@ -168,11 +171,7 @@ impl AnyPacketizer {
         ensures memory { any_units_refusal packing self.old mtu (lent_units units.now) ≡ None →
             OnErr result (result ≡ Err EveryUnitError.OutOfMemory) }
     {
-        match self {
-            AnyPacketizer::H264(it) => it.packetize_units(packing, mtu, units),
-            AnyPacketizer::H265(it) => it.packetize_units(packing, mtu, units),
-            AnyPacketizer::H266(it) => it.packetize_units(packing, mtu, units),
-        }
+        with_held!(self, |it| it.packetize_units(packing, mtu, units))
     }
 
     /// Appends the packets of units to a buffer; a refusal leaves those that stood there.
@@ -198,11 +197,10 @@ impl AnyPacketizer {
         ensures memory { any_units_refusal packing self.old mtu (lent_units units.now) ≡ None →
             OnErr result (result ≡ Err EveryUnitError.OutOfMemory) }
     {
-        match self {
-            AnyPacketizer::H264(it) => it.packetize_units_into(packing, mtu, units, into),
-            AnyPacketizer::H265(it) => it.packetize_units_into(packing, mtu, units, into),
-            AnyPacketizer::H266(it) => it.packetize_units_into(packing, mtu, units, into),
-        }
+        with_held!(
+            self,
+            |it| it.packetize_units_into(packing, mtu, units, into)
+        )
     }
 
     /// How much memory the packets of a payload take, each behind so many bytes. Nothing changes.
@@ -218,11 +216,7 @@ impl AnyPacketizer {
         ensures free { payload_has_no_effect (any_packetizer_state self.now) mtu payload.now
             ≡ true → IsOk result }
     {
-        match self {
-            AnyPacketizer::H264(it) => it.packets_size(mtu, payload, headroom),
-            AnyPacketizer::H265(it) => it.packets_size(mtu, payload, headroom),
-            AnyPacketizer::H266(it) => it.packets_size(mtu, payload, headroom),
-        }
+        with_held!(self, |it| it.packets_size(mtu, payload, headroom))
     }
 
     /// How much memory the packets of units take, each behind so many bytes. Nothing changes, and the
@@ -242,11 +236,7 @@ impl AnyPacketizer {
         ensures memory { any_units_refusal packing self.now mtu (lent_units units.now) ≡ None →
             OnErr result (result ≡ Err EveryUnitError.OutOfMemory) }
     {
-        match self {
-            AnyPacketizer::H264(it) => it.units_size(packing, mtu, units, headroom),
-            AnyPacketizer::H265(it) => it.units_size(packing, mtu, units, headroom),
-            AnyPacketizer::H266(it) => it.units_size(packing, mtu, units, headroom),
-        }
+        with_held!(self, |it| it.units_size(packing, mtu, units, headroom))
     }
 
     /// Copies the packets of a payload straight to memory where they fit; else nothing is done.
@@ -271,11 +261,10 @@ impl AnyPacketizer {
         ensures free { payload_has_no_effect (any_packetizer_state self.old) mtu payload.now
             ≡ true → IsOk result }
     {
-        match self {
-            AnyPacketizer::H264(it) => it.packetize_to_memory(mtu, payload, headroom, to, ends),
-            AnyPacketizer::H265(it) => it.packetize_to_memory(mtu, payload, headroom, to, ends),
-            AnyPacketizer::H266(it) => it.packetize_to_memory(mtu, payload, headroom, to, ends),
-        }
+        with_held!(
+            self,
+            |it| it.packetize_to_memory(mtu, payload, headroom, to, ends)
+        )
     }
 
     /// Copies the packets of one unit as it is straight to memory where they fit; else nothing is
@@ -303,11 +292,10 @@ impl AnyPacketizer {
         ensures free { one_unit_items (any_packetizer_state self.old) mtu unit.now ≡ [] →
             IsOk result }
     {
-        match self {
-            AnyPacketizer::H264(it) => it.packetize_unit_to_memory(mtu, unit, headroom, to, ends),
-            AnyPacketizer::H265(it) => it.packetize_unit_to_memory(mtu, unit, headroom, to, ends),
-            AnyPacketizer::H266(it) => it.packetize_unit_to_memory(mtu, unit, headroom, to, ends),
-        }
+        with_held!(
+            self,
+            |it| it.packetize_unit_to_memory(mtu, unit, headroom, to, ends)
+        )
     }
 
     /// Copies the packets of units straight to memory where they fit; else nothing is done.
@@ -335,16 +323,9 @@ impl AnyPacketizer {
         ensures memory { any_units_refusal packing self.old mtu (lent_units units.now) ≡ None →
             OnErr result (result ≡ Err EveryUnitError.OutOfMemory) }
     {
-        match self {
-            AnyPacketizer::H264(it) => {
-                it.packetize_units_to_memory(packing, mtu, units, headroom, to, ends)
-            }
-            AnyPacketizer::H265(it) => {
-                it.packetize_units_to_memory(packing, mtu, units, headroom, to, ends)
-            }
-            AnyPacketizer::H266(it) => {
-                it.packetize_units_to_memory(packing, mtu, units, headroom, to, ends)
-            }
-        }
+        with_held!(
+            self,
+            |it| it.packetize_units_to_memory(packing, mtu, units, headroom, to, ends)
+        )
     }
 }

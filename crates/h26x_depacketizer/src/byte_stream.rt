@@ -1,7 +1,7 @@
 //! Units as they are written: behind start codes (Annex B of H.264, H.265 and H.266), or behind their
 //! lengths (ISO/IEC 14496-15).
 
-ghost use Rattle.std.specs.Prelude.{◌≡◌, ◌≤◌, ◌<◌, ◌+◌, ◌^◌, nat_le, true, false, ◌&&◌, if◌then◌else◌, ◌⊎◌, [], ◌∷◌, ◌++◌, length, Ok, Err, OnOk, OnErr};
+ghost use Rattle.std.specs.Prelude.{◌≡◌, ◌≤◌, ◌<◌, ◌+◌, ◌^◌, nat_le, true, false, ◌&&◌, if◌then◌else◌, ◌⊎◌, [], ◌∷◌, ◌++◌, length, take, Ok, Err, OnOk, OnErr};
 ghost use Rattle.h26x_core.specs.ByteStream.{byte_stream};
 ghost use Rattle.h26x_core.specs.Word.{long_word};
 ghost use Rattle.h26x_model.specs.Receive.Outcome.{is_too_long};
@@ -118,49 +118,116 @@ pub fn write_unit<W: UnitSink>(is_avc: bool, unit: &[u8], out: &mut W) -> Result
     }
 }
 
-/// Writes a unit of these parts, where there is room for it.
-fn put_parts<W: UnitSink>(is_avc: bool, head: &[u8], run: &[u8], body: &[u8], out: &mut W)
-    requires room { 4 + (length head.now + (length run.now + length body.now)) ≤ W.room out.old }
-    requires small { length head.now + (length run.now + length body.now) < 2 ^ 64 }
-    requires fits { (is_avc && is_too_long (head.now ++ (run.now ++ body.now))) ≡ false }
+/// What stands before a unit's data: the start code or the length, and its header behind that.
+#[inline(always)]
+fn lead_of(prefix: [u8; 4], head: [u8; 2]) -> [u8; 6]
+    ensures { result ≡ prefix ++ head }
+{
+    [prefix[0], prefix[1], prefix[2], prefix[3], head[0], head[1]]
+}
+
+/// Writes what stands before the data of a unit of this length, with a header of so many of these
+/// bytes, where there is room for it. It is one copy of few bytes, whose number the compiler knows,
+/// which takes no call.
+#[inline(always)]
+fn put_lead<W: UnitSink>(is_avc: bool, len: usize, head: [u8; 2], head_len: usize, out: &mut W)
+    requires header { head_len ≤ 2 }
+    requires room { 4 + head_len ≤ W.room out.old }
+    requires fits { (is_avc && nat_le (2 ^ 32) len) ≡ false }
     ensures written { IsWritten W.sink out.old out.new
-        (unit_text is_avc (head.now ++ (run.now ++ body.now))) }
+        ((if is_avc then long_word len else 0 ∷ 0 ∷ 0 ∷ 1 ∷ []) ++ take head_len head) }
+    ensures room { W.room out.old ≤ W.room out.new + (4 + head_len) }
     ensures kept_lacks { W.lacks out.new ≡ W.lacks out.old }
 {
-    put_prefix(is_avc, head.len() + run.len() + body.len(), out);
-    out.put(head);
+    let lead = lead_of(prefix_of(is_avc, len), head);
+    out.put(&lead[..PREFIX_SIZE + head_len]);
+}
+
+/// Writes a unit of these parts, where there is room for it.
+#[inline(always)]
+fn put_parts<W: UnitSink>(
+    is_avc: bool,
+    head: [u8; 2],
+    head_len: usize,
+    run: &[u8],
+    body: &[u8],
+    out: &mut W,
+)
+    requires header { head_len ≤ 2 }
+    requires room { 4 + (head_len + (length run.now + length body.now)) ≤ W.room out.old }
+    requires small { head_len + (length run.now + length body.now) < 2 ^ 64 }
+    requires fits { (is_avc && is_too_long (take head_len head ++ (run.now ++ body.now))) ≡ false }
+    ensures written { IsWritten W.sink out.old out.new
+        (unit_text is_avc (take head_len head ++ (run.now ++ body.now))) }
+    ensures kept_lacks { W.lacks out.new ≡ W.lacks out.old }
+{
+    put_lead(
+        is_avc,
+        head_len + run.len() + body.len(),
+        head,
+        head_len,
+        out,
+    );
     if !run.is_empty() {
         out.put(run);
     }
     out.put(body);
 }
 
-/// Writes a unit of these parts, as `write_unit` does: its header, the data of its run, and the last
-/// of its data (RFC 6184, 5.8; RFC 7798, 4.4.3; RFC 9328, 4.3.3).
+/// Writes a unit of these parts, as `write_unit` does: its header, which has so many of these bytes,
+/// the data of its run, and the last of its data (RFC 6184, 5.8; RFC 7798, 4.4.3; RFC 9328, 4.3.3).
+#[inline(always)]
 pub fn write_parts<W: UnitSink>(
     is_avc: bool,
-    head: &[u8],
+    head: [u8; 2],
+    head_len: usize,
     run: &[u8],
     body: &[u8],
     out: &mut W,
 ) -> Result<(), PacketError>
-    ensures outcome { IsWriteOutcome (is_avc && is_too_long (head.now ++ (run.now ++ body.now)))
-        result }
+    requires header { head_len ≤ 2 }
+    ensures outcome { IsWriteOutcome (is_avc && is_too_long (take head_len head
+        ++ (run.now ++ body.now))) result }
     ensures written { OnOk result (IsWritten W.sink out.old out.new
-        (byte_stream is_avc ((head.now ++ (run.now ++ body.now)) ∷ []))) }
+        (byte_stream is_avc ((take head_len head ++ (run.now ++ body.now)) ∷ []))) }
     ensures kept { OnErr result (W.sink out.new ≡ W.sink out.old) }
     ensures told_room { TellsRoom W.room W.lacks out.old out.new result
-        (byte_stream is_avc ((head.now ++ (run.now ++ body.now)) ∷ [])) }
+        (byte_stream is_avc ((take head_len head ++ (run.now ++ body.now)) ∷ [])) }
     ensures lacks { result ≡ Err PacketError.OutOfMemory → W.lacks out.new ≡ true }
 {
-    let len = head
-        .len()
+    let len = head_len
         .saturating_add(run.len())
         .saturating_add(body.len());
     if is_avc && is_too_long(len) {
         return Err(PacketError::AvcUnitTooLong);
     }
     out.reserve(len.saturating_add(PREFIX_SIZE))?;
-    put_parts(is_avc, head, run, body, out);
+    put_parts(is_avc, head, head_len, run, body, out);
     Ok(())
+}
+
+/// Writes a unit of a header, which has so many of these bytes, and of what stands behind it, as
+/// `write_unit` does. Each form is a copy of its own here too.
+#[inline(always)]
+pub fn write_headed<W: UnitSink>(
+    is_avc: bool,
+    head: [u8; 2],
+    head_len: usize,
+    body: &[u8],
+    out: &mut W,
+) -> Result<(), PacketError>
+    requires header { head_len ≤ 2 }
+    ensures outcome { IsWriteOutcome (is_avc && is_too_long (take head_len head ++ body.now)) result }
+    ensures written { OnOk result (IsWritten W.sink out.old out.new
+        (byte_stream is_avc ((take head_len head ++ body.now) ∷ []))) }
+    ensures kept { OnErr result (W.sink out.new ≡ W.sink out.old) }
+    ensures told_room { TellsRoom W.room W.lacks out.old out.new result
+        (byte_stream is_avc ((take head_len head ++ body.now) ∷ [])) }
+    ensures lacks { result ≡ Err PacketError.OutOfMemory → W.lacks out.new ≡ true }
+{
+    if is_avc {
+        write_parts(true, head, head_len, &[], body, out)
+    } else {
+        write_parts(false, head, head_len, &[], body, out)
+    }
 }

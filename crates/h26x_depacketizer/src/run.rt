@@ -1,7 +1,7 @@
 //! The data of the fragments since the latest start (RFC 6184, 5.8; RFC 7798, 4.4.3; RFC 9328,
 //! 4.3.3).
 
-ghost use Rattle.std.specs.Prelude.{◌≡◌, ◌⊎◌, ◌++◌, ◌+◌, ◌≤◌, length, take, drop, vec_capacity, OnOk, OnErr, IfOk, IsOk, Some, None, Ok, Err, is_some, true};
+ghost use Rattle.std.specs.Prelude.{◌≡◌, ◌⊎◌, ◌++◌, ◌+◌, ◌≤◌, ◌<◌, ◌^◌, length, take, drop, vec_capacity, OnOk, OnErr, IfOk, IsOk, Some, None, Ok, Err, is_some, true};
 ghost use Rattle.std.specs.Option.{option_map};
 ghost use Rattle.h26x_model.specs.Receive.RunLimit.{run_len};
 ghost use Rattle.h26x_depacketizer.specs.Run.{run_bytes, run_memory};
@@ -56,9 +56,47 @@ fn put_at(bytes: &mut [u8], at: usize, body: &[u8])
     bytes[at..at + body.len()].copy_from_slice(body);
 }
 
-/// Has these data in a buffer from here on. Where it is too small another one takes its place, at least
-/// twice as large. The answer is where they end.
+/// How many bytes a buffer has that takes the place of a smaller one, for data that end there: twice as
+/// many, but where a closed run keeps it no more than that keeps, so that a run of a megabyte has its
+/// memory again.
 #[inline]
+fn grown_size(room: usize, end: usize) -> usize
+    ensures holds { end ≤ result }
+    ensures memory { room < end → result ≤ run_memory end }
+    ensures kept { end ≤ 1048576 → result ≤ 1048576 }
+{
+    let doubled = room.saturating_mul(2);
+    if end > KEPT_MEMORY {
+        end.max(doubled)
+    } else {
+        end.max(doubled.min(KEPT_MEMORY))
+    }
+}
+
+/// Has these data from here on in another buffer, since this one is too small. Out of the way of those
+/// for which there is room.
+#[cold]
+#[inline(never)]
+fn grow(bytes: &mut Vec<u8>, at: usize, body: &[u8]) -> Result<(), PacketError>
+    requires within { at ≤ length bytes.old.items }
+    requires small { length bytes.old.items < at + length body.now }
+    requires fits { at + length body.now < 2 ^ 64 }
+    ensures outcome { OnErr result (result ≡ Err PacketError.OutOfMemory) }
+    ensures within { OnOk result (at + length body.now ≤ length bytes.new.items) }
+    ensures bytes { OnOk result (take (at + length body.now) bytes.new.items
+        ≡ take at bytes.old.items ++ body.now) }
+    ensures memory { OnOk result (vec_capacity bytes.new ≤ run_memory (at + length body.now)) }
+    ensures kept { OnErr result (bytes.new ≡ bytes.old) }
+{
+    let size = grown_size(bytes.len(), at + body.len());
+    let alloc = *bytes.allocator();
+    *bytes = memory_of(alloc, size, &bytes[..at], body)?;
+    Ok(())
+}
+
+/// Has these data in a buffer from here on. Where it is too small another one takes its place. The
+/// answer is where they end.
+#[inline(always)]
 fn put(bytes: &mut Vec<u8>, at: usize, body: &[u8]) -> Result<usize, PacketError>
     requires within { at ≤ length bytes.old.items }
     requires memory { vec_capacity bytes.old ≤ run_memory (at + length body.now) }
@@ -70,12 +108,9 @@ fn put(bytes: &mut Vec<u8>, at: usize, body: &[u8]) -> Result<usize, PacketError
     ensures memory { OnOk result (vec_capacity bytes.new ≤ run_memory (at + length body.now)) }
     ensures kept { OnErr result (bytes.new ≡ bytes.old) }
 {
-    let room = bytes.len();
     let end = at + body.len();
-    if end > room {
-        let size = end.max(room.saturating_mul(2));
-        let alloc = *bytes.allocator();
-        *bytes = memory_of(alloc, size, &bytes[..at], body)?;
+    if end > bytes.len() {
+        grow(bytes, at, body)?;
     } else {
         put_at(bytes, at, body);
     }
@@ -174,7 +209,8 @@ impl OpenRun {
         if self.is_open { Some(self.len) } else { None }
     }
 
-    /// Adds these data to the open run.
+    /// Adds these data to the open run. A copy behind the others, without a call, where there is room.
+    #[inline(always)]
     pub fn extend(&mut self, body: &[u8]) -> Result<(), PacketError>
         requires { is_some self.old ≡ true }
         ensures outcome { (result ≡ Ok tt) ⊎ (result ≡ Err PacketError.OutOfMemory) }

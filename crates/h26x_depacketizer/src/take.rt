@@ -8,7 +8,7 @@ ghost use Rattle.h26x_depacketizer.specs.DepacketizerView.{reading_of, AreChecke
 ghost use Rattle.h26x_depacketizer.specs.UnitSink.{IsWritten, TellsRoom, WantsRoom};
 
 use crate::aggregate::write_units;
-use crate::byte_stream::{is_too_long, write_parts, write_unit};
+use crate::byte_stream::{is_too_long, write_headed, write_unit};
 use crate::extra::told;
 use crate::parts::Parts;
 use crate::reader::PacketReader;
@@ -147,9 +147,9 @@ pub(crate) fn take_parts<C: PacketReader, W: UnitSink>(
             Ok(())
         }
         Parts::Unit { head, body } => {
-            let head = &head[..codec.header_len()];
-            write_parts(is_avc, head, &[], body, out)?;
-            *codec_extra = told(codec, *codec_extra, codec.is_key(head));
+            let head_len = codec.header_len();
+            write_headed(is_avc, head, head_len, body, out)?;
+            *codec_extra = told(codec, *codec_extra, codec.is_key(&head[..head_len]));
             Ok(())
         }
         Parts::Aggregate { bytes, size } => {

@@ -20,7 +20,7 @@ abbrev pub packetizer_with_numbers : {X : Type 0} {P : X → Type 0} → Bool �
     CodecPacketizer X P
 packetizer_with_numbers is_on (p.H264 it) = p.H264 it
 packetizer_with_numbers is_on (p.H265 it) = p.H265
-    (record it { codec = h265_setting.setting is_on; next_don = 0 })
+    (record it { codec = h265_setting.sending_with_donl is_on it.codec; next_don = 0 })
 packetizer_with_numbers is_on (p.H266 it) = p.H266
     (record it { codec = h266_setting.setting is_on; next_don = 0 })
 packetizer_with_numbers is_on (p.Boxed it) = p.Boxed it

@@ -4,6 +4,7 @@ ghost use Rattle.std.specs.Prelude.{◌≡◌, ◌≤◌, ◌-◌, ◌∷◌, le
 ghost use Rattle.h26x_model.specs.Payload.Format.{IsLimit};
 ghost use Rattle.h26x_model.specs.Send.Every.{groups_of, go_together};
 ghost use Rattle.h26x_packetizer.specs.Group.{lent_units, may_share, fits_room, fitting};
+ghost use Rattle.h26x_packetizer.specs.Group as spec;
 
 use crate::every_format::EveryFormat;
 use crate::packing::Packing;
@@ -77,7 +78,10 @@ pub(crate) fn fit_together<C: EveryFormat>(
     packing: Packing,
     limit: usize,
     units: &[&[u8]],
-) -> bool {
+) -> bool
+    ensures { result ≡ spec.fit_together (C.format codec) (may_share packing (C.is_slice codec))
+        (C.start codec) (C.each codec) limit (lent_units units.now) }
+{
     if units.len() == 1 {
         return fits_one(codec, limit, units[0]);
     }

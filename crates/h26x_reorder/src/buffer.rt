@@ -198,6 +198,7 @@ impl ReorderBuffer {
     }
 
     /// Whether it holds none.
+    #[inline]
     pub fn is_empty(&self) -> bool
         ensures { result ≡ (length self.now.held == 0) }
     {
@@ -205,6 +206,7 @@ impl ReorderBuffer {
     }
 
     /// The number that is due: the next one to go where none is missing. None before a packet came.
+    #[inline]
     pub fn due(&self) -> Option<u16>
         ensures { result ≡ self.now.due }
     {
@@ -221,6 +223,7 @@ impl ReorderBuffer {
 
     /// The first of the packets held, which stays: one that is taken elsewhere, where memory may lack,
     /// is looked at here and popped once it was taken.
+    #[inline]
     pub fn first(&self) -> Option<&HeldPacket>
         ensures { option_map (λ p. numbered_packet p.now) result ≡ slice_get self.now.held 0 }
     {
@@ -236,6 +239,7 @@ impl ReorderBuffer {
     }
 
     /// Whether the first of the packets held may go, so that `pop` gives it out.
+    #[inline]
     pub fn is_ready(&self) -> bool
         ensures ready { result ≡ is_some (next_packet self.now) }
 

@@ -26,7 +26,7 @@ use Rattle.h26x_transmission.specs.declared.depacketizer.CodecDepacketizer.TheVa
 abbrev pub codec_packetizer_state : {X : Type 0} {P : X → Type 0} → CodecPacketizer X P →
     Option PacketizerState
 codec_packetizer_state (p.H264 it) = Some (packetizer_state h264 it)
-codec_packetizer_state (p.H265 it) = Some (packetizer_state (h265_setting.setting_format it.codec) it)
+codec_packetizer_state (p.H265 it) = Some (packetizer_state (h265_setting.sending_format it.codec) it)
 codec_packetizer_state (p.H266 it) = Some (packetizer_state (h266_setting.setting_format it.codec) it)
 codec_packetizer_state (p.Boxed it) = None
 
@@ -45,7 +45,8 @@ packetizer_codec (p.Boxed it) = None
 -- a packetizer with decoding order numbers, which begin at 0; H.264 has none
 abbrev pub with_donl : {X : Type 0} {P : X → Type 0} → CodecPacketizer X P → CodecPacketizer X P
 with_donl (p.H264 it) = p.H264 it
-with_donl (p.H265 it) = p.H265 (record it { codec = h265_setting.setting true; next_don = 0 })
+with_donl (p.H265 it) = p.H265
+    (record it { codec = h265_setting.sending_with_donl true it.codec; next_don = 0 })
 with_donl (p.H266 it) = p.H266 (record it { codec = h266_setting.setting true; next_don = 0 })
 with_donl (p.Boxed it) = p.Boxed it
 

@@ -1,4 +1,5 @@
 pub mod CodecStates
+pub mod EveryUnits
 pub mod Transmissions
 pub mod Taking
 pub mod Repeating

@@ -1,7 +1,7 @@
 //! Worked cases of what is said of whole transmissions. Each is the contract of a function without
 //! a result.
 
-ghost use Rattle.std.specs.Prelude.{◌≡◌, ℕ, true, false, List, [], ◌∷◌, ◌++◌, Some, Ok};
+ghost use Rattle.std.specs.Prelude.{◌≡◌, ℕ, true, false, List, [], ◌∷◌, ◌++◌, Some, None, Ok};
 ghost use Rattle.h26x_core.specs.ByteStream.{byte_stream};
 ghost use Rattle.h26x_core.specs.declared.extra.CodecExtra.{CodecExtra};
 ghost use Rattle.h26x_core.specs.declared.extra.CodecExtra.TheVariants as extras;
@@ -11,13 +11,22 @@ ghost use Rattle.h26x_cut.specs.declared.ZeroRule.TheVariants.{All, AtMostThree}
 ghost use Rattle.h26x_model.specs.Send.Calls.{fresh_call};
 ghost use Rattle.h26x_model.specs.Send.PacketizerState.{PacketizerState};
 ghost use Rattle.h26x_model.specs.Receive.DepacketizerState.{Depacketization, depacketization, AreWritten};
+ghost use Rattle.h26x_packetizer.specs.PacketizerView.{PacketizerView};
+ghost use Rattle.h26x_packetizer.specs.declared.packing.Packing.TheVariants.{Together, Apart};
+ghost use Rattle.h26x_packetizer.specs.declared.refusal.WhyRefused.TheVariants.{WithoutHeader};
 ghost use Rattle.h264_payload.specs.H264.{h264};
+ghost use Rattle.h264_payload.specs.declared.codec.H264.{H264};
 ghost use Rattle.h265_payload.specs.H265.{h265};
 ghost use Rattle.h266_payload.specs.H266.{h266};
 ghost use Rattle.h26x_codec.specs.Codec.{fresh_packetizer_state, fresh_depacketizer_state};
 ghost use Rattle.h26x_transmission.specs.Transmissions.{AreMade, AreSent, IsSentCall, AreTaken, IsLeftOver, IsStopped, LacksMemory, IsFresh, AreCarriedWhole};
 ghost use Rattle.h26x_transmission.specs.Taking.{AreSomePackets, AreReceivedAs, LossIsWithin};
 ghost use Rattle.h26x_transmission.specs.Repeating.{MayBeRepeated, IsFirstRefused};
+ghost use Rattle.h26x_transmission.specs.CodecStates.{packetizer_codec};
+ghost use Rattle.h26x_transmission.specs.EveryUnits.{codec_every_packets, codec_units_refusal};
+ghost use Rattle.h26x_transmission.specs.declared.packetizer.CodecPacketizer.TheVariants as p;
+
+use crate::packetizer::CodecPacketizer;
 
 /// Each call without effect was made; one with an effect may not have been.
 pub fn calls_made()
@@ -171,4 +180,20 @@ pub fn first_refused_packets()
     ensures behind_another { IsFirstRefused h264 ([] ∷ (0xff ∷ []) ∷ [])
         (NaluTypeIsNotHandled 31) → ⊥ }
     ensures none { (error : PacketError) → IsFirstRefused h264 ((0x65 ∷ []) ∷ []) error → ⊥ }
+{}
+
+/// Two units of H.264 in a STAP-A or apart, and one without a header that is named; none of a
+/// packetizer in a box.
+pub fn every_unit_of_any_packetizer(packetizer: &CodecPacketizer)
+    ensures together { (it : PacketizerView H264) → packetizer.now ≡ p.H264 it →
+        codec_every_packets Together packetizer.now 9 ((0x27 ∷ []) ∷ (0x48 ∷ []) ∷ []) ≡
+        Some ((0x58 ∷ 0x00 ∷ 0x01 ∷ 0x27 ∷ 0x00 ∷ 0x01 ∷ 0x48 ∷ []) ∷ []) }
+    ensures apart { (it : PacketizerView H264) → packetizer.now ≡ p.H264 it →
+        codec_every_packets Apart packetizer.now 9 ((0x27 ∷ []) ∷ (0x48 ∷ []) ∷ []) ≡
+        Some ((0x27 ∷ []) ∷ (0x48 ∷ []) ∷ []) }
+    ensures refused { (it : PacketizerView H264) → packetizer.now ≡ p.H264 it →
+        codec_units_refusal Together packetizer.now 9 ((0x27 ∷ []) ∷ [] ∷ []) ≡
+        Some (record { place = 1; len = 0; why = WithoutHeader }) }
+    ensures boxed { packetizer_codec packetizer.now ≡ None →
+        codec_every_packets Together packetizer.now 9 ((0x27 ∷ []) ∷ []) ≡ None }
 {}

@@ -29,7 +29,7 @@ pub fn packetizer_states(packetizer: &CodecPacketizer)
         }
         CodecPacketizer::H265(it) => {
             payload_packetizer_states(it);
-            h265_payload::laws::meets_the_facts();
+            h265_payload::laws::either_header_is_of_the_format();
         }
         CodecPacketizer::H266(it) => {
             payload_packetizer_states(it);

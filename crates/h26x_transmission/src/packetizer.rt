@@ -1,13 +1,17 @@
 //! A packetizer of any codec, or a caller's own.
 
-ghost use Rattle.std.specs.Prelude.{◌≡◌, ◌≤◌, [], true, false, Some, Err, IfOk, OnOk, OnErr, IsOk};
+ghost use Rattle.std.specs.Prelude.{◌≡◌, ◌≤◌, [], true, false, Some, None, Ok, Err, IfOk, IfSome, OnOk, OnErr, IsOk};
+ghost use Rattle.std.specs.Option.{option_map};
 ghost use Rattle.h26x_model.specs.Send.Limit.{AreWithinLimit};
 ghost use Rattle.h26x_model.specs.Send.PacketizerState.{PacketizerState, IsSentAsPlanned, next_call, next_packets, after_payload, payload_has_no_effect, one_unit_items, one_unit_packets, after_one_unit};
 ghost use Rattle.h26x_model.specs.Send.Rival.{TakesFewestFragments};
 ghost use Rattle.h26x_packetizer.specs.Sending.{contents};
 ghost use Rattle.h26x_packetizer.specs.Buffer.{IsAppended, with_packets, with_memory, IsMemoryWith};
+ghost use Rattle.h26x_packetizer.specs.Group.{lent_units};
+ghost use Rattle.h26x_packetizer.specs.Placement.{IsSizeOf};
 ghost use Rattle.h26x_codec.specs.Codec.{default_format, fresh_packetizer_state, limit_at};
 ghost use Rattle.h26x_transmission.specs.CodecStates.{codec_packetizer_state, packetizer_codec, with_max_don_diff, with_max_packet_size, OfPacketizer};
+ghost use Rattle.h26x_transmission.specs.EveryUnits.{codec_every_packets, codec_units_refusal, codec_after_units, AreBoth};
 ghost use Rattle.h26x_transmission.specs.declared.packetizer.CodecPacketizer.TheVariants as p;
 ghost use Rattle.h264_payload.specs.H264.{h264};
 ghost use Rattle.h265_payload.specs.Setting as h265_setting;
@@ -18,7 +22,7 @@ ghost use Rattle.h26x_model.specs.Send.PacketizerState.{packetizer_meaning};
 use h26x_codec::Codec;
 use h26x_codec::formats::formats_meet_the_facts;
 use h26x_core::{PacketError, Packetizer};
-use h26x_packetizer::PacketBuffer;
+use h26x_packetizer::{EveryUnitError, PacketBuffer, PacketsSize, Packing, RefusedUnit};
 use h264_payload::H264Packetizer;
 use h265_payload::H265Packetizer;
 use h266_payload::H266Packetizer;
@@ -228,13 +232,123 @@ impl CodecPacketizer {
             }
         }
     }
+
+    /// The packets of the NAL units of one access unit, each without its start code, none of which is
+    /// left out, in order and as they are: those that fit one packet together
+    /// (RFC 6184, 5.7.1; RFC 7798, 4.4.2; RFC 9328, 4.3.2), the others alone or in fragments. Sets that
+    /// wait stay.
+    ///
+    /// The first unit that can't go is named, and nothing is sent then. Else `OutOfMemory` is the only
+    /// error. Both leave everything. `None` of one in a box, whose trait has no such call: nothing is
+    /// done.
+    pub fn packetize_units<'a>(
+        &mut self,
+        packing: Packing,
+        mtu: usize,
+        units: &'a [&'a [u8]],
+    ) -> Result<Option<Vec<Vec<u8>>>, EveryUnitError>
+        ensures packets { IfOk result (λ made. option_map (λ it. contents it.items) made
+            ≡ codec_every_packets packing self.old mtu (lent_units units.now)) }
+        ensures after { OnOk result (codec_packetizer_state self.new
+            ≡ codec_after_units self.old (lent_units units.now)) }
+        ensures codec { packetizer_codec self.new ≡ packetizer_codec self.old }
+
+        ensures kept { OnErr result (self.new ≡ self.old) }
+        ensures refused { (unit : RefusedUnit) →
+            codec_units_refusal packing self.old mtu (lent_units units.now) ≡ Some unit →
+            result ≡ Err (EveryUnitError.Unit unit) }
+        ensures memory { codec_units_refusal packing self.old mtu (lent_units units.now) ≡ None →
+            OnErr result (result ≡ Err EveryUnitError.OutOfMemory) }
+
+        // A packetizer in a box isn't asked.
+        ensures boxed { packetizer_codec self.old ≡ None →
+            (result ≡ Ok None) × (self.new ≡ self.old) }
+    {
+        match self {
+            CodecPacketizer::H264(it) => Ok(Some(it.packetize_units(packing, mtu, units)?)),
+            CodecPacketizer::H265(it) => Ok(Some(it.packetize_units(packing, mtu, units)?)),
+            CodecPacketizer::H266(it) => Ok(Some(it.packetize_units(packing, mtu, units)?)),
+            CodecPacketizer::Boxed(_) => Ok(None),
+        }
+    }
+
+    /// Appends the packets of [`packetize_units`](CodecPacketizer::packetize_units) to a buffer, each
+    /// behind its headroom. A refusal leaves the packets that stood there, and so does `None`, of one
+    /// in a box.
+    pub fn packetize_units_into<'a>(
+        &mut self,
+        packing: Packing,
+        mtu: usize,
+        units: &'a [&'a [u8]],
+        into: &mut PacketBuffer,
+    ) -> Result<Option<()>, EveryUnitError>
+        ensures packets { IfSome (codec_every_packets packing self.old mtu (lent_units units.now))
+            (λ packets. OnOk result (into.new ≡ with_packets into.old packets into.new.memory)) }
+        ensures bounded { IfSome (codec_every_packets packing self.old mtu (lent_units units.now))
+            (λ packets. OnOk result (IsMemoryWith into.old packets into.new.memory)) }
+        ensures after { OnOk result (codec_packetizer_state self.new
+            ≡ codec_after_units self.old (lent_units units.now)) }
+        ensures codec { packetizer_codec self.new ≡ packetizer_codec self.old }
+        ensures asked { IfOk result (λ it.
+            it ≡ option_map (λ codec. tt) (packetizer_codec self.old)) }
+
+        ensures kept { OnErr result (self.new ≡ self.old) }
+        ensures kept_packets { OnErr result (into.new ≡ with_memory into.old into.new.memory) }
+        ensures refused { (unit : RefusedUnit) →
+            codec_units_refusal packing self.old mtu (lent_units units.now) ≡ Some unit →
+            result ≡ Err (EveryUnitError.Unit unit) }
+        ensures memory { codec_units_refusal packing self.old mtu (lent_units units.now) ≡ None →
+            OnErr result (result ≡ Err EveryUnitError.OutOfMemory) }
+
+        // A packetizer in a box isn't asked.
+        ensures boxed { packetizer_codec self.old ≡ None →
+            (result ≡ Ok None) × ((self.new ≡ self.old) × (into.new ≡ into.old)) }
+    {
+        match self {
+            CodecPacketizer::H264(it) => it.packetize_units_into(packing, mtu, units, into)?,
+            CodecPacketizer::H265(it) => it.packetize_units_into(packing, mtu, units, into)?,
+            CodecPacketizer::H266(it) => it.packetize_units_into(packing, mtu, units, into)?,
+            CodecPacketizer::Boxed(_) => return Ok(None),
+        }
+        Ok(Some(()))
+    }
+
+    /// How many packets [`packetize_units_into`](CodecPacketizer::packetize_units_into) would make of
+    /// units, and how many bytes they take with `headroom` bytes before each; `None` of one in a box.
+    /// Nothing changes, and units are refused as there.
+    pub fn units_size<'a>(
+        &self,
+        packing: Packing,
+        mtu: usize,
+        units: &'a [&'a [u8]],
+        headroom: usize,
+    ) -> Result<Option<PacketsSize>, EveryUnitError>
+        ensures size { IfOk result (λ it. AreBoth (IsSizeOf headroom)
+            (codec_every_packets packing self.now mtu (lent_units units.now)) it) }
+        ensures refused { (unit : RefusedUnit) →
+            codec_units_refusal packing self.now mtu (lent_units units.now) ≡ Some unit →
+            result ≡ Err (EveryUnitError.Unit unit) }
+        ensures memory { codec_units_refusal packing self.now mtu (lent_units units.now) ≡ None →
+            OnErr result (result ≡ Err EveryUnitError.OutOfMemory) }
+
+        // A packetizer in a box isn't asked.
+        ensures boxed { packetizer_codec self.now ≡ None → result ≡ Ok None }
+    {
+        let size = match self {
+            CodecPacketizer::H264(it) => it.units_size(packing, mtu, units, headroom)?,
+            CodecPacketizer::H265(it) => it.units_size(packing, mtu, units, headroom)?,
+            CodecPacketizer::H266(it) => it.units_size(packing, mtu, units, headroom)?,
+            CodecPacketizer::Boxed(_) => return Ok(None),
+        };
+        Ok(Some(size))
+    }
 }
 
 impl Packetizer for CodecPacketizer {
     // What the later answers of the packetizer that it holds depend on.
     ghost meaning = { elim [
       | p.H264 it ↦ packetizer_meaning (packetizer_state h264 it)
-      | p.H265 it ↦ packetizer_meaning (packetizer_state (h265_setting.setting_format it.codec) it)
+      | p.H265 it ↦ packetizer_meaning (packetizer_state (h265_setting.sending_format it.codec) it)
       | p.H266 it ↦ packetizer_meaning (packetizer_state (h266_setting.setting_format it.codec) it)
       | p.Boxed it ↦ (Packetizer-box it).Packetizer.meaning it.value
     ] };

@@ -3,6 +3,7 @@
 
 ghost use Rattle.std.specs.Prelude.{◌≡◌, true, false, [], ◌∷◌};
 ghost use Rattle.h265_payload.specs.H265.{sets_packet};
+ghost use Rattle.h265_payload.specs.Sending.{headed_packet};
 ghost use Rattle.h265_payload.specs.LowestHeader.{with_lowest_header};
 
 /// A VPS, an SPS and a PPS of temporal id 1 before a slice of layer 1 and temporal id 3: their
@@ -14,6 +15,17 @@ pub fn sets_before_a_slice()
     ensures lowest { with_lowest_header false (0x60 ∷ 0x0b ∷ 0x00 ∷ 0x02 ∷ 0x40 ∷ 0x01 ∷ 0x00 ∷
         0x02 ∷ 0x42 ∷ 0x01 ∷ 0x00 ∷ 0x02 ∷ 0x44 ∷ 0x01 ∷ []) ≡ 0x60 ∷ 0x01 ∷ 0x00 ∷ 0x02 ∷ 0x40 ∷
         0x01 ∷ 0x00 ∷ 0x02 ∷ 0x42 ∷ 0x01 ∷ 0x00 ∷ 0x02 ∷ 0x44 ∷ 0x01 ∷ [] }
+{}
+
+/// An SPS and a PPS of temporal ids 2 and 1 before a slice of 3, behind a number: by the setting their
+/// packet has the header of the slice, or their own.
+pub fn sets_with_either_header()
+    ensures behind { headed_packet true false 9 ((0x42 ∷ 0x02 ∷ []) ∷ (0x44 ∷ 0x01 ∷ []) ∷ [])
+        (0x02 ∷ 0x03 ∷ 0xaa ∷ []) ≡ 0x60 ∷ 0x03 ∷ 0x00 ∷ 0x09 ∷ 0x00 ∷ 0x02 ∷ 0x42 ∷ 0x02 ∷ 0x00 ∷
+        0x00 ∷ 0x02 ∷ 0x44 ∷ 0x01 ∷ [] }
+    ensures own { headed_packet true true 9 ((0x42 ∷ 0x02 ∷ []) ∷ (0x44 ∷ 0x01 ∷ []) ∷ [])
+        (0x02 ∷ 0x00 ∷ 0xaa ∷ []) ≡ 0x60 ∷ 0x01 ∷ 0x00 ∷ 0x09 ∷ 0x00 ∷ 0x02 ∷ 0x42 ∷ 0x02 ∷ 0x00 ∷
+        0x00 ∷ 0x02 ∷ 0x44 ∷ 0x01 ∷ [] }
 {}
 
 /// With numbers, behind DONL and DOND: layers 33 and 34 and temporal ids 3 and 2, of which the second

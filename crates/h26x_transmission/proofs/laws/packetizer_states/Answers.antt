@@ -11,8 +11,8 @@ use Rattle.h26x_transmission.proofs.laws.packetizer_states.Goals as goal
 pub returns-in-H265-clause-format : goal.returns-in-H265-clause-format
 returns-in-H265-clause-format g c = λ s is.
     of_state (λ (x : PacketizerState). IsPayloadFormat x.format) (codec_packetizer_state c.args.packetizer.now)
-    (packetizer_state (h265_setting.setting_format c.in-H265.it.codec) c.in-H265.it) s (rw c.in-H265.is refl) is
-    (c.meets_the_facts-in-H265.ensures c.in-H265.it.codec.has_donl)
+    (packetizer_state (h265_setting.sending_format c.in-H265.it.codec) c.in-H265.it) s (rw c.in-H265.is refl) is
+    (c.either_header_is_of_the_format.ensures.facts c.in-H265.it.codec.codec.has_donl c.in-H265.it.codec.lowest_header)
 
 pub returns-in-H266-clause-format : goal.returns-in-H266-clause-format
 returns-in-H266-clause-format g c = λ s is.

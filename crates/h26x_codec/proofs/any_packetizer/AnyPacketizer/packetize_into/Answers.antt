@@ -11,7 +11,7 @@ pub returns-in-H266-clause-packets : goal.returns-in-H266-clause-packets
 returns-in-H266-clause-packets c = rw c.in-H266.is c.packetize_into-in-H266.ensures.packets
 
 pub returns-in-H265-clause-after : goal.returns-in-H265-clause-after
-returns-in-H265-clause-after c = rw c.in-H265.is (then_mapped (λ v. packetizer_state (h265_setting.setting_format v.codec) v) _ _ c.packetize_into-in-H265.result c.packetize_into-in-H265.ensures.after)
+returns-in-H265-clause-after c = rw c.in-H265.is (then_mapped (λ v. packetizer_state (h265_setting.sending_format v.codec) v) _ _ c.packetize_into-in-H265.result c.packetize_into-in-H265.ensures.after)
 
 pub returns-in-H266-clause-after : goal.returns-in-H266-clause-after
 returns-in-H266-clause-after c = rw c.in-H266.is (then_mapped (λ v. packetizer_state (h266_setting.setting_format v.codec) v) _ _ c.packetize_into-in-H266.result c.packetize_into-in-H266.ensures.after)

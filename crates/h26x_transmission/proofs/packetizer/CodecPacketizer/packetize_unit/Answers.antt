@@ -12,14 +12,14 @@ use Rattle.h26x_transmission.proofs.packetizer.CodecPacketizer.packetize_unit.Go
 pub returns-in-H265-clause-packets : goal.returns-in-H265-clause-packets
 returns-in-H265-clause-packets g c = λ s is.
     of_state (λ (x : PacketizerState). IfOk c.packetize_unit-in-H265.result (λ made. contents made.items ≡ one_unit_packets x c.args.mtu c.args.unit.now))
-    (codec_packetizer_state c.args.self.now) (packetizer_state (h265_setting.setting_format c.in-H265.it.codec) c.in-H265.it) s (rw c.in-H265.is refl) is
+    (codec_packetizer_state c.args.self.now) (packetizer_state (h265_setting.sending_format c.in-H265.it.codec) c.in-H265.it) s (rw c.in-H265.is refl) is
     c.packetize_unit-in-H265.ensures.packets
 
 pub returns-in-H265-clause-after : goal.returns-in-H265-clause-after
 returns-in-H265-clause-after g c = λ s is.
-    of_state (λ (x : PacketizerState). OnOk c.packetize_unit-in-H265.result (Some (packetizer_state (h265_setting.setting_format c.packetize_unit-in-H265.new.self.codec) c.packetize_unit-in-H265.new.self) ≡ Some (after_one_unit x c.args.mtu c.args.unit.now)))
-    (codec_packetizer_state c.args.self.now) (packetizer_state (h265_setting.setting_format c.in-H265.it.codec) c.in-H265.it) s (rw c.in-H265.is refl) is
-    (then_mapped (λ it. Some (packetizer_state (h265_setting.setting_format it.codec) it)) _ _ c.packetize_unit-in-H265.result c.packetize_unit-in-H265.ensures.after)
+    of_state (λ (x : PacketizerState). OnOk c.packetize_unit-in-H265.result (Some (packetizer_state (h265_setting.sending_format c.packetize_unit-in-H265.new.self.codec) c.packetize_unit-in-H265.new.self) ≡ Some (after_one_unit x c.args.mtu c.args.unit.now)))
+    (codec_packetizer_state c.args.self.now) (packetizer_state (h265_setting.sending_format c.in-H265.it.codec) c.in-H265.it) s (rw c.in-H265.is refl) is
+    (then_mapped (λ it. Some (packetizer_state (h265_setting.sending_format it.codec) it)) _ _ c.packetize_unit-in-H265.result c.packetize_unit-in-H265.ensures.after)
 
 pub returns-in-H266-clause-packets : goal.returns-in-H266-clause-packets
 returns-in-H266-clause-packets g c = λ s is.

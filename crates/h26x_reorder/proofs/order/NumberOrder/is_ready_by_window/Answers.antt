@@ -6,8 +6,8 @@ use Rattle.h26x_core.specs.Sequence.{distance_ahead}
 use Rattle.h26x_reorder.specs.Rtp.{RtpBody}
 use Rattle.h26x_reorder.specs.ReorderBuffer.{BufferState, IsBufferState, IsHeldInOrder, next_packet, first_ready}
 use Rattle.h26x_reorder.proofs.BufferLemmas.{ends, AreEnds, few_is}
-use Rattle.h26x_reorder.proofs.order.NumberOrder.is_ready.Given.{Over}
-use Rattle.h26x_reorder.proofs.order.NumberOrder.is_ready.Goals as goal
+use Rattle.h26x_reorder.proofs.order.NumberOrder.is_ready_by_window.Given.{Over}
+use Rattle.h26x_reorder.proofs.order.NumberOrder.is_ready_by_window.Goals as goal
 
 -- the first and the last of what is held
 are_ends : (g : Over) (c : goal.Else-number-due g) → AreEnds c.self.inside.window c.in-Some-Some-Some.due (map g.T.Numbered.numbered c.self.inside.held)
