@@ -3,6 +3,7 @@ pub mod WordLemmas
 pub mod ReadingLemmas
 pub mod WritingLemmas
 pub mod ElementLemmas
+pub mod PlacedLemmas
 pub mod RedLemmas
 pub mod RtxLemmas
 pub mod RedLawLemmas

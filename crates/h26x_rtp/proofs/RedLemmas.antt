@@ -69,3 +69,11 @@ block_next (a ∷ []) bytes size long is = absurd (omega arith)
 block_next (a ∷ b ∷ []) bytes size long is = absurd (omega arith)
 block_next (a ∷ b ∷ c ∷ []) bytes size long is = absurd (omega arith)
 block_next (a ∷ b ∷ c ∷ d ∷ headers) bytes size long is = rw is refl
+
+-- each header has a block
+pub block_for_each : (headers bytes : List ℕ) → length headers / 4 ≡ length (blocks_in headers bytes)
+block_for_each [] bytes = refl
+block_for_each (a ∷ []) bytes = refl
+block_for_each (a ∷ b ∷ []) bytes = refl
+block_for_each (a ∷ b ∷ c ∷ []) bytes = refl
+block_for_each (a ∷ b ∷ c ∷ d ∷ headers) bytes = let more = block_for_each headers (drop (c % 4 * 256 + d) bytes) in omega (arith, more)

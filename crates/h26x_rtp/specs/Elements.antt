@@ -1,7 +1,9 @@
 -- The elements of a header extension (RFC 8285).
-use Rattle.std.specs.Prelude.{ℕ, zero, suc, ◌+◌, ◌-◌, ◌*◌, ◌/◌, ◌%◌, ◌<◌, ◌≤◌, ◌==◌, nat_lt, Bool, ◌||◌, if◌then◌else◌, List, [], ◌∷◌, length, take, drop, slice_index, Option, Some, None}
+use Rattle.std.specs.Prelude.{◌≡◌, ℕ, zero, suc, ◌+◌, ◌-◌, ◌*◌, ◌/◌, ◌%◌, ◌<◌, ◌≤◌, ◌==◌, nat_lt, Bool, ◌||◌, if◌then◌else◌, List, [], ◌∷◌, length, take, drop, slice_index, Option, Some, None, Result, Ok, Err}
 use Rattle.h26x_rtp.specs.declared.elements.ElementForm.{ElementForm}
 use Rattle.h26x_rtp.specs.declared.elements.ElementForm.TheVariants.{OneByte, TwoBytes}
+use Rattle.h26x_rtp.specs.declared.elements.RtpElementError.{RtpElementError}
+use Rattle.h26x_rtp.specs.declared.elements.RtpElementError.TheVariants.{PastTheEnd}
 use Rattle.h26x_rtp.specs.Datagram.{ExtensionParts}
 
 -- an element: its local identifier and its bytes (RFC 8285, 4.1)
@@ -74,3 +76,53 @@ elements_by None bytes = []
 
 abbrev pub extension_elements : ExtensionParts → List ElementParts
 extension_elements it = elements_by (form_of it.profile) it.bytes
+
+-- an element and the place at which its bytes begin
+pub record PlacedParts : Type 0 where
+  pub place : ℕ
+  pub parts : ElementParts
+
+-- It is the first of the elements of bytes that begin at a place: its bytes stand where it says, and
+-- behind them the others.
+pub record IsFirstPlaced (form : ElementForm) (place : ℕ) (bytes : List ℕ) (it : PlacedParts) : Type
+    0 where
+  pub behind : place ≤ it.place
+  pub there : take (length it.parts.bytes) (drop (it.place - place) bytes) ≡ it.parts.bytes
+  pub first : elements_in form bytes
+      ≡ it.parts ∷ elements_in form (drop (it.place + length it.parts.bytes - place) bytes)
+
+-- What one element answers: there is none behind the last, and one may pass the end.
+abbrev pub PlacedAnswer : Type 0
+PlacedAnswer = Result (Option PlacedParts) RtpElementError
+
+-- an element of so many bytes at a place, of those that stand from there on
+abbrev pub placed_of : ℕ → ℕ → ℕ → List ℕ → PlacedAnswer
+placed_of id place size bytes =
+    if nat_lt (length bytes) size then Err PastTheEnd
+    else Ok (Some (record {
+      place = place;
+      parts = record { id = id; bytes = take size bytes };
+    }))
+
+-- the element whose first byte, no padding, is at a place, by those behind it: none where that ends the
+-- elements (RFC 8285, 4.2 and 4.3)
+abbrev pub placed_at : ElementForm → ℕ → ℕ → List ℕ → PlacedAnswer
+placed_at OneByte place byte bytes =
+    if (byte / 16 == 0) || (byte / 16 == 15) then Ok None
+    else placed_of (byte / 16) (place + 1) (byte % 16 + 1) bytes
+placed_at TwoBytes place byte [] = Err PastTheEnd
+placed_at TwoBytes place byte (size ∷ bytes) = placed_of byte (place + 2) size bytes
+
+-- the first element of those that stand at a place, behind padding (RFC 8285, 4.1.2)
+abbrev pub first_placed : ElementForm → ℕ → List ℕ → PlacedAnswer
+first_placed form place [] = Ok None
+first_placed form place (byte ∷ bytes) =
+    if byte == 0 then first_placed form (place + 1) bytes else placed_at form place byte bytes
+
+-- the first element of an extension from a place on
+abbrev pub placed_by : Option ElementForm → ℕ → List ℕ → PlacedAnswer
+placed_by (Some form) from bytes = first_placed form from (drop from bytes)
+placed_by None from bytes = Ok None
+
+abbrev pub extension_placed : ExtensionParts → ℕ → PlacedAnswer
+extension_placed it from = placed_by (form_of it.profile) from it.bytes

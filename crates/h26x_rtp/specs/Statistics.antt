@@ -58,6 +58,10 @@ begins_source number s =
     else if jumps number s then follows_jump number s.after_jump
     else false
 
+-- whether a number goes on behind the highest of a source that has begun
+abbrev pub follows_highest : ℕ → RtpStatistics → Bool
+follows_highest number s = not (s.received == 0) && goes_on number s
+
 -- whether a packet of this number counts: not one that jumps alone (RFC 3550, A.1)
 abbrev pub is_counted : ℕ → RtpStatistics → Bool
 is_counted number s = if begins_source number s then true else not (jumps number s)

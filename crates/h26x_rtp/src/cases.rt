@@ -4,7 +4,7 @@
 ghost use Rattle.std.specs.Prelude.{◌≡◌, true, false, None, Some, Ok, Err, [], ◌∷◌, pos, negsuc};
 ghost use Rattle.h26x_rtp.specs.Datagram.{datagram_bytes, IsPadding};
 ghost use Rattle.h26x_rtp.specs.Reading.{datagram_of};
-ghost use Rattle.h26x_rtp.specs.Elements.{extension_elements, elements_in, element_bytes, form_of};
+ghost use Rattle.h26x_rtp.specs.Elements.{extension_elements, extension_placed, elements_in, element_bytes, first_placed, form_of};
 ghost use Rattle.h26x_rtp.specs.Feedback.{PictureLossFits, IntraRequestFits, ReceiverReportFits, picture_loss_bytes, picture_loss_of, intra_request_bytes, intra_request_of, receiver_report_bytes, receiver_report_of, lost_word, lost_in};
 ghost use Rattle.h26x_rtp.specs.Memory.{filled_from, overwritten};
 ghost use Rattle.h26x_rtp.specs.Nack.{IsNackWritten, NackFits, nack_bytes, nack_count, nack_of, nack_pairs, pair_numbers, pairs_room};
@@ -13,7 +13,7 @@ ghost use Rattle.h26x_rtp.specs.Rtcp.{IsRtcp, first_rtcp};
 ghost use Rattle.h26x_rtp.specs.Rtx.{rtx_bytes, retransmission_of};
 ghost use Rattle.h26x_rtp.specs.Statistics.{AreNear, AreAllCounted, after_number, after_numbers, after_report, no_statistics, is_counted, extended_highest, lost_of, fraction_of, jitter_after, report_block};
 
-use crate::elements::ElementForm;
+use crate::elements::{ElementForm, RtpElementError};
 use crate::error::{RtpError, RtpWriteError};
 use crate::feedback::{FullIntraRequest, PictureLoss, ReceiverReport};
 use crate::red::RedError;
@@ -127,6 +127,33 @@ pub fn elements_of_extensions()
     ensures other { form_of 0x1010 ≡ None }
     ensures written { element_bytes ElementForm.OneByte (record { id = 14; bytes = 0xaa ∷ [] })
         ≡ 0xe0 ∷ 0xaa ∷ [] }
+{}
+
+/// The elements of the same extensions by their places, from a place on; and those that pass the end.
+pub fn elements_by_their_places()
+    ensures first { first_placed ElementForm.OneByte 0 (0x10 ∷ 0xaa ∷ 0x21 ∷ 0xbb ∷ 0xcc ∷ 0x00 ∷ [])
+        ≡ Ok (Some (record { place = 1; parts = record { id = 1; bytes = 0xaa ∷ [] } })) }
+    ensures next { extension_placed (record {
+      profile = 0xbede;
+      bytes = 0x10 ∷ 0xaa ∷ 0x00 ∷ 0x21 ∷ 0xbb ∷ 0xcc ∷ 0x00 ∷ 0x00 ∷ [];
+    }) 2 ≡ Ok (Some (record { place = 4; parts = record { id = 2; bytes = 0xbb ∷ 0xcc ∷ [] } })) }
+    ensures last { first_placed ElementForm.OneByte 6 (0x00 ∷ 0x00 ∷ []) ≡ Ok None }
+    ensures two_bytes { extension_placed (record {
+      profile = 0x1000;
+      bytes = 0x01 ∷ 0x00 ∷ 0x02 ∷ 0x01 ∷ 0xbb ∷ [];
+    }) 2 ≡ Ok (Some (record { place = 4; parts = record { id = 2; bytes = 0xbb ∷ [] } })) }
+    ensures empty { first_placed ElementForm.TwoBytes 0 (0x01 ∷ 0x00 ∷ [])
+        ≡ Ok (Some (record { place = 2; parts = record { id = 1; bytes = [] } })) }
+    ensures reserved { first_placed ElementForm.OneByte 2 (0xf0 ∷ 0x00 ∷ 0x20 ∷ 0xbb ∷ []) ≡ Ok None }
+    ensures no_padding { first_placed ElementForm.OneByte 0 (0x01 ∷ 0xaa ∷ 0xbb ∷ []) ≡ Ok None }
+    ensures past { first_placed ElementForm.OneByte 0 (0x11 ∷ 0xaa ∷ [])
+        ≡ Err RtpElementError.PastTheEnd }
+    ensures past_two { first_placed ElementForm.TwoBytes 0 (0x11 ∷ 0x02 ∷ 0xaa ∷ [])
+        ≡ Err RtpElementError.PastTheEnd }
+    ensures no_length { first_placed ElementForm.TwoBytes 0 (0x11 ∷ [])
+        ≡ Err RtpElementError.PastTheEnd }
+    ensures other { extension_placed (record { profile = 0x1010; bytes = 0x11 ∷ [] }) 0 ≡ Ok None }
+    ensures behind { extension_placed (record { profile = 0xbede; bytes = 0x11 ∷ [] }) 1 ≡ Ok None }
 {}
 
 /// A sender report and the edges of RTCP's packet types; packets with payload type 96.

@@ -27,6 +27,7 @@ pub struct RtpDatagram<'a> {
 }
 
 /// How many bytes the CSRCs have, by the first byte of a header (RFC 3550, 5.1).
+#[inline(always)]
 fn csrcs_size(first: u8) -> usize
     ensures { result ≡ 4 * field first 3 0 }
 {
@@ -34,6 +35,7 @@ fn csrcs_size(first: u8) -> usize
 }
 
 /// X, by the first byte of a header (RFC 3550, 5.1).
+#[inline(always)]
 fn is_extended(first: u8) -> bool
     ensures { result ≡ is_set first 4 }
 {
@@ -41,6 +43,7 @@ fn is_extended(first: u8) -> bool
 }
 
 /// P, by the first byte of a header (RFC 3550, 5.1).
+#[inline(always)]
 fn is_padded(first: u8) -> bool
     ensures { result ≡ is_set first 5 }
 {
@@ -48,6 +51,7 @@ fn is_padded(first: u8) -> bool
 }
 
 /// So many bytes, and those behind them.
+#[inline(always)]
 fn front(bytes: &[u8], count: usize, fault: RtpError) -> Result<(&[u8], &[u8]), RtpError>
     ensures { reading.AnswersAs (λ it. (it.0.now, it.1.now)) result
         (reading.front_of fault count bytes.now) }
@@ -59,6 +63,7 @@ fn front(bytes: &[u8], count: usize, fault: RtpError) -> Result<(&[u8], &[u8]), 
 }
 
 /// The header extension, where there is one, and what stands behind it (RFC 3550, 5.3.1).
+#[inline(always)]
 fn read_extension(
     extended: bool,
     bytes: &[u8],
@@ -77,6 +82,7 @@ fn read_extension(
 }
 
 /// Payload and padding (RFC 3550, 5.1).
+#[inline(always)]
 fn read_padding(padded: bool, bytes: &[u8]) -> Result<(&[u8], &[u8]), RtpError>
     ensures { reading.AnswersAs (λ it. (it.0.now, it.1.now)) result
         (reading.padding_at padded bytes.now) }
@@ -98,6 +104,7 @@ fn read_padding(padded: bool, bytes: &[u8]) -> Result<(&[u8], &[u8]), RtpError>
 }
 
 /// The header by the bytes that every header has, and the parts behind them (RFC 3550, 5.1).
+#[inline(always)]
 fn header_of<'a>(
     bytes: &[u8],
     csrcs: &'a [u8],
@@ -120,6 +127,7 @@ fn header_of<'a>(
 }
 
 /// A packet of version 2: by the first 12 bytes what stands behind them (RFC 3550, 5.1).
+#[inline(always)]
 fn read_behind<'a>(bytes: &[u8], rest: &'a [u8]) -> Result<RtpDatagram<'a>, RtpError>
     requires { FIXED_SIZE ≤ length bytes.now }
     ensures { reading.AnswersAs datagram_view result (reading.behind_fixed bytes.now rest.now) }
@@ -137,6 +145,7 @@ fn read_behind<'a>(bytes: &[u8], rest: &'a [u8]) -> Result<RtpDatagram<'a>, RtpE
 }
 
 /// A packet, or why the bytes are none (RFC 3550, 5.1).
+#[inline(always)]
 fn read_datagram(bytes: &[u8]) -> Result<RtpDatagram<'_>, RtpError>
     ensures { reading.AnswersAs datagram_view result (reading.datagram_of bytes.now) }
 {
@@ -153,6 +162,7 @@ fn read_datagram(bytes: &[u8]) -> Result<RtpDatagram<'_>, RtpError>
 
 impl<'a> RtpDatagram<'a> {
     /// Reads an RTP packet, or says why the bytes are none (RFC 3550, 5.1).
+    #[inline(always)]
     pub fn read(bytes: &'a [u8]) -> Result<RtpDatagram<'a>, RtpError>
         ensures read { reading.AnswersAs datagram_view result (reading.datagram_of bytes.now) }
         ensures spelled { IfOk result (λ it. IsDatagram bytes.now (datagram_view it)) }

@@ -4,7 +4,7 @@ ghost use Rattle.std.specs.Prelude.{◌≡◌, ◌+◌, ◌^◌, ◌<◌, ◌≤
 ghost use Rattle.std.specs.List.{AllByRecursion, flat_map};
 ghost use Rattle.h26x_rtp.specs.Datagram.{HeaderParts, DatagramParts, AreBytes, HeaderFits, IsDatagram, datagram_header};
 ghost use Rattle.h26x_rtp.specs.Reading.{datagram_of};
-ghost use Rattle.h26x_rtp.specs.Elements.{ElementParts, ElementFits, element_bytes, elements_in};
+ghost use Rattle.h26x_rtp.specs.Elements.{ElementParts, ElementFits, PlacedParts, IsFirstPlaced, element_bytes, elements_in, first_placed};
 ghost use Rattle.h26x_rtp.specs.Feedback.{PictureLossFits, picture_loss_bytes, picture_loss_of, IntraRequestFits, intra_request_bytes, intra_request_of, ReceiverReportFits, receiver_report_bytes, receiver_report_of};
 ghost use Rattle.h26x_rtp.specs.Nack.{IsNackWritten, nack_count, nack_of, nack_pairs, nack_within, pair_numbers};
 ghost use Rattle.h26x_rtp.specs.Red.{RedParts, IsRed, red_of};
@@ -13,7 +13,7 @@ ghost use Rattle.h26x_rtp.specs.Rtx.{IsOriginal, retransmission_of};
 ghost use Rattle.h26x_rtp.specs.Statistics.{AreAllCounted, AreNear, after_numbers, no_statistics, highest_number};
 ghost use Rattle.h26x_rtp.specs.Writing.{IsDatagramWritten, IsHeaderWritten, told_size};
 
-use crate::elements::ElementForm;
+use crate::elements::{ElementForm, RtpElementError};
 use crate::error::RtpWriteError;
 use crate::feedback::{FullIntraRequest, PictureLoss, ReceiverReport};
 use crate::nack::NackWritten;
@@ -94,6 +94,20 @@ pub fn written_elements_are_read()
     ensures padding { (form : ElementForm) (behind : List ℕ) →
         elements_in form (0 ∷ behind) ≡ elements_in form behind }
     ensures none { (form : ElementForm) → elements_in form [] ≡ [] }
+{}
+
+/// The elements of bytes that begin at a place are those that are found one by one, each where it
+/// stands; one that fits, and isn't there wholly, passes the end (RFC 8285, 4.2 and 4.3).
+pub fn elements_are_found_one_by_one()
+    ensures first { (form : ElementForm) (place : ℕ) (bytes : List ℕ) (it : PlacedParts) →
+        first_placed form place bytes ≡ Ok (Some it) → IsFirstPlaced form place bytes it }
+    ensures none { (form : ElementForm) (place : ℕ) (bytes : List ℕ) →
+        ((it : PlacedParts) → first_placed form place bytes ≡ Ok (Some it) → ⊥) →
+        elements_in form bytes ≡ [] }
+    ensures past { (form : ElementForm) (place size : ℕ) (it : ElementParts) → ElementFits form it →
+        0 < size → size < length (element_bytes form it) →
+        first_placed form place (take size (element_bytes form it))
+        ≡ Err RtpElementError.PastTheEnd }
 {}
 
 /// Of packets whose numbers, not going round, are near to each other, the extended highest number is

@@ -187,6 +187,15 @@ impl<'a> RedBlock<'a> {
     }
 }
 
+impl<'a> RedBlocks<'a> {
+    /// How many are left.
+    pub fn left(&self) -> usize
+        ensures { result ≡ length self.now }
+    {
+        self.headers.len() / HEADER_SIZE
+    }
+}
+
 /// The next block of headers, and what is left of both.
 fn first_block<'a>(headers: &[u8], bytes: &'a [u8]) -> (RedBlock<'a>, &'a [u8])
     requires long { 4 ≤ length headers.now }

@@ -1,6 +1,6 @@
 //! What is counted of the packets of one source (RFC 3550, 6.4.1, A.1, A.3 and A.8).
 
-ghost use Rattle.std.specs.Prelude.{◌≡◌, ◌-◌, ◌*◌, ◌/◌, ◌^◌, ◌<◌, min, nat_le};
+ghost use Rattle.std.specs.Prelude.{◌≡◌, ◌-◌, ◌*◌, ◌/◌, ◌^◌, ◌<◌, false, min, nat_le};
 ghost use Rattle.h26x_rtp.specs.Statistics as spec;
 ghost use Rattle.h26x_rtp.specs.Statistics.{tally};
 
@@ -76,6 +76,7 @@ fn fraction_of(expected: u64, received: u64) -> u8
 }
 
 /// By how much two transit times differ (RFC 3550, A.8).
+#[inline(always)]
 fn difference(before: u32, transit: u32) -> u32
     ensures { result ≡ spec.transit_difference (Some before) transit }
 {
@@ -85,6 +86,7 @@ fn difference(before: u32, transit: u32) -> u32
 }
 
 /// Sixteen times the jitter, by a transit time more (RFC 3550, A.8).
+#[inline(always)]
 fn jitter_after(before: Option<u32>, transit: u32, jitter: u64) -> u64
     ensures { result ≡ spec.jitter_after before transit jitter }
 {
@@ -118,6 +120,7 @@ impl RtpStatistics {
     }
 
     /// Whether a number goes on behind the highest.
+    #[inline(always)]
     fn goes_on(&self, number: u16) -> bool
         ensures { result ≡ spec.goes_on number self.now }
     {
@@ -155,8 +158,34 @@ impl RtpStatistics {
         self.received_before = 0;
     }
 
+    /// Counts one packet as received.
+    #[inline(always)]
+    fn count_one(&mut self)
+        ensures { self.new ≡ record self.old { received = tally self.old.received 1 } }
+    {
+        self.received = self.received.saturating_add(1);
+    }
+
     /// Counts a packet's number; whether the packet counts (RFC 3550, A.1).
+    #[inline(always)]
     fn count_number(&mut self, number: u16) -> bool
+        ensures counted { result ≡ spec.is_counted number self.old }
+        ensures after { self.new ≡ spec.after_number number self.old }
+    {
+        if self.received != 0 && self.goes_on(number) {
+            let ahead = number.wrapping_sub(self.highest);
+            self.highest = number;
+            self.expected = self.expected.saturating_add(u64::from(ahead));
+            self.count_one();
+            return true;
+        }
+        self.count_other(number)
+    }
+
+    /// Counts a number that doesn't go on behind the highest, or the first.
+    #[inline(never)]
+    fn count_other(&mut self, number: u16) -> bool
+        requires { spec.follows_highest number self.old ≡ false }
         ensures counted { result ≡ spec.is_counted number self.old }
         ensures after { self.new ≡ spec.after_number number self.old }
     {
@@ -168,16 +197,12 @@ impl RtpStatistics {
             self.after_jump = Some(number.wrapping_add(1));
             return false;
         }
-        if self.goes_on(number) {
-            let ahead = number.wrapping_sub(self.highest);
-            self.highest = number;
-            self.expected = self.expected.saturating_add(u64::from(ahead));
-        }
-        self.received = self.received.saturating_add(1);
+        self.count_one();
         true
     }
 
     /// Counts the arrival of a packet.
+    #[inline(always)]
     fn count_arrival(&mut self, transit: u32, size: usize)
         ensures { self.new ≡ spec.with_arrival transit size self.old }
     {
@@ -189,6 +214,7 @@ impl RtpStatistics {
     /// Counts a packet that came, by its number, its timestamp and the bytes of its payload; whether it
     /// counts: one whose number jumps does only where it follows the one that jumped last (RFC 3550,
     /// A.1). `arrival` is when it came, in ticks of the timestamps' clock, which go round at 2^32.
+    #[inline(always)]
     pub fn receive(&mut self, arrival: u32, sequence: u16, timestamp: u32, size: usize) -> bool
         ensures counted { result ≡ spec.is_counted sequence self.old }
         ensures after { self.new ≡ spec.after_arrival arrival sequence timestamp size self.old }

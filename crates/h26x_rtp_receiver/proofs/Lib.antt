@@ -1,3 +1,4 @@
 pub mod OriginalLemmas
+pub mod PlainLemmas
 pub mod CallLemmas
 pub mod CaseLemmas

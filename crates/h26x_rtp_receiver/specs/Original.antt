@@ -1,6 +1,6 @@
 -- What an RTP packet brings of its stream: itself, the packet that it sends again (RFC 4588), or its
 -- primary block (RFC 2198).
-use Rattle.std.specs.Prelude.{◌≡◌, ℕ, ◌==◌, nat_lt, Bool, true, false, ◌||◌, if◌then◌else◌, List, [], ◌∷◌, length, drop, Option, Some, None, Result, Ok, Err, IfSome}
+use Rattle.std.specs.Prelude.{◌≡◌, ℕ, ◌==◌, nat_lt, Bool, true, false, is_some, ◌||◌, if◌then◌else◌, List, [], ◌∷◌, length, drop, Option, Some, None, Result, Ok, Err, IfSome}
 use Rattle.h26x_reorder.specs.Rtp.{rtp_body}
 use Rattle.h26x_rtp.specs.Datagram.{HeaderParts, DatagramParts}
 use Rattle.h26x_rtp.specs.Words.{word_at}
@@ -23,6 +23,13 @@ resent_type types payload_type =
     else if is_type types.rtx_of_red payload_type then types.red
     else None
 
+-- the payload type whose packets bear the codec's payload by themselves: the codec's, unless it is that
+-- of RTX or of RED too
+abbrev pub plain_type : RtpPayloadTypes → Option ℕ
+plain_type types =
+    if is_some (resent_type types types.media) || is_type types.red types.media then None
+    else Some types.media
+
 -- whether a stream may begin with a packet of this one: it is the codec's, or RED
 abbrev pub begins_stream : RtpPayloadTypes → ℕ → Bool
 begins_stream types payload_type =
@@ -44,6 +51,10 @@ bearing is_recovered number header payload = record {
   no_media = None;
   is_recovered = is_recovered;
 }
+
+-- what a packet brings that bears the codec's payload by itself
+abbrev pub plain_original : DatagramParts → RtpOriginal
+plain_original it = bearing false it.header.sequence it.header it.payload
 
 -- one with a payload of this payload type; without one it is padding alone (RFC 3550, 5.1)
 abbrev pub with_type : RtpPayloadTypes → Bool → ℕ → HeaderParts → ℕ → List ℕ → RtpOriginal

@@ -3,6 +3,8 @@
 ghost use Rattle.std.specs.Prelude.{◌≡◌};
 ghost use Rattle.h26x_rtp_receiver.specs.Original as spec;
 
+use std::marker::Model;
+
 /// The payload types of one stream, as a session description tells them; each is below 128.
 #[derive(Debug, Clone, Copy, PartialEq, Eq)]
 pub struct RtpPayloadTypes {
@@ -19,6 +21,7 @@ pub struct RtpPayloadTypes {
 }
 
 /// Whether a payload type is this one.
+#[inline(always)]
 fn is_type(payload_type: Option<u8>, it: u8) -> bool
     ensures { result ≡ spec.is_type payload_type it }
 {
@@ -42,6 +45,16 @@ impl RtpPayloadTypes {
         None
     }
 
+    /// That whose packets bear the codec's payload by themselves.
+    fn plain_type(self) -> Option<u8>
+        ensures { result ≡ spec.plain_type self }
+    {
+        if self.resent_type(self.media).is_some() || self.is_red(self.media) {
+            return None;
+        }
+        Some(self.media)
+    }
+
     /// Whether it is RED.
     pub(crate) fn is_red(self, payload_type: u8) -> bool
         ensures { result ≡ spec.is_type self.red payload_type }
@@ -61,5 +74,53 @@ impl RtpPayloadTypes {
         ensures { result ≡ spec.begins_stream self payload_type }
     {
         payload_type == self.media || self.is_red(payload_type)
+    }
+}
+
+/// The payload types of a stream, and which of them is plain, worked out once.
+#[derive(Debug, Drop)]
+pub(crate) struct StreamTypes {
+    /// All of them.
+    all: RtpPayloadTypes,
+    /// That whose packets bear the codec's payload by themselves.
+    plain: Option<u8>,
+}
+
+impl Model for StreamTypes {
+    ghost use Rattle.std.specs.Prelude.{◌≡◌};
+    ghost use Rattle.h26x_rtp_receiver.specs.declared.payload_types.RtpPayloadTypes.{RtpPayloadTypes};
+    ghost use Rattle.h26x_rtp_receiver.specs.Original.{plain_type};
+
+    ghost Value = { RtpPayloadTypes };
+
+    ghost view = { λ a. a.all };
+
+    ghost invariant = { λ a. a.plain ≡ plain_type a.all };
+}
+
+impl StreamTypes {
+    /// Those of a stream.
+    pub(crate) fn new(all: RtpPayloadTypes) -> Self
+        ensures { result ≡ all }
+    {
+        StreamTypes {
+            all,
+            plain: all.plain_type(),
+        }
+    }
+
+    /// All of them.
+    pub(crate) fn all(&self) -> RtpPayloadTypes
+        ensures { result ≡ self.now }
+    {
+        self.all
+    }
+
+    /// Whether packets of this one bear the codec's payload by themselves.
+    #[inline(always)]
+    pub(crate) fn is_plain(&self, payload_type: u8) -> bool
+        ensures { result ≡ spec.is_type (spec.plain_type self.now) payload_type }
+    {
+        is_type(self.plain, payload_type)
     }
 }

@@ -1,33 +1,38 @@
 //! A receiver that takes datagrams and gives out access units.
 
-ghost use Rattle.std.specs.Prelude.{◌≡◌, ◌^◌, ◌<◌, ◌≤◌, None, Err, IfOk, OnOk, OnErr, length};
+ghost use Rattle.std.specs.Prelude.{◌≡◌, ◌^◌, ◌<◌, ◌≤◌, true, None, Err, IfOk, OnOk, OnErr, length};
 ghost use Rattle.std.specs.Option.{option_map};
+ghost use Rattle.h26x_assembler.specs.AccessUnit.{units_so_far_value};
 ghost use Rattle.h26x_access_units.specs.Pushed as pushes;
 ghost use Rattle.h26x_access_units.specs.ReceivedAccessUnit.{received_unit_value};
-ghost use Rattle.h26x_access_units.specs.Reception.{nack_numbers, next_deadline, settings};
+ghost use Rattle.h26x_access_units.specs.Reception.{nack_numbers, next_deadline, open_units, settings};
 ghost use Rattle.h26x_rtp.specs.Views.{header_view, datagram_view};
 ghost use Rattle.h26x_rtp_receiver.specs.Keyframes.{is_keyframe_due};
-ghost use Rattle.h26x_rtp_receiver.specs.Sources.{told, is_followed};
+ghost use Rattle.h26x_rtp_receiver.specs.Original.{plain_original};
+ghost use Rattle.h26x_rtp_receiver.specs.Plain.{is_plain_packet};
+ghost use Rattle.h26x_rtp_receiver.specs.Sources.{told, is_followed, sources_with};
 ghost use Rattle.h26x_rtp_receiver.specs.RtpReception.{fresh_rtp, followed_rtp, statistics_after, other_source, brought_original, brought_packet, IsRtpPush, IsPacketPush, IsBroughtPush, IsOriginalPush, IsRtpNext, IsRtpNextInPart, nacks_due, after_nacks, after_keyframe, finished_rtp, rtp_with_settings, report_of, after_report_of};
 
 use crate::keyframes::KeyframeRequests;
 use crate::original::RtpOriginal;
-use crate::payload_types::RtpPayloadTypes;
+use crate::payload_types::{RtpPayloadTypes, StreamTypes};
 use crate::pushed::{RtpPushError, RtpPushed, RtpTaken};
 use crate::sources::{RtpSources, bears_missing};
 use h26x_access_units::{
     AccessUnitConfig, AccessUnitReceiver, Counts, NackTimes, Nacks, Pushed, ReceivedAccessUnit,
     Receives,
 };
+use h26x_assembler::UnitsSoFar;
 use h26x_core::PacketError;
 use h26x_depacketizer::RunDepacketizer;
+use h26x_reorder::RtpPacket;
 use h26x_rtp::{ReportBlock, RtpDatagram, RtpHeader, RtpStatistics, is_rtcp};
 use std::alloc::Global;
 
 /// Takes the datagrams of one stream as they come and gives out access units.
 #[derive(Debug, Drop)]
 pub struct RtpReceiver<D: RunDepacketizer> {
-    types: RtpPayloadTypes,
+    types: StreamTypes,
     sources: RtpSources,
     receiver: AccessUnitReceiver<D>,
     statistics: RtpStatistics,
@@ -73,7 +78,7 @@ impl<D: RunDepacketizer> RtpReceiver<D> {
             r result ≡ fresh_rtp types config (D.state depacketizer) }
     {
         RtpReceiver {
-            types,
+            types: StreamTypes::new(types),
             sources: RtpSources::none(),
             receiver: AccessUnitReceiver::new(alloc, depacketizer, config),
             statistics: RtpStatistics::new(),
@@ -113,7 +118,7 @@ impl<D: RunDepacketizer> RtpReceiver<D> {
             OnErr result (told (r self.now).types (r self.now).sources (datagram_view packet.entry)
             ≡ None) }
     {
-        match self.sources.tell(self.types, packet) {
+        match self.sources.tell(self.types.all(), packet) {
             Some(is_followed) => Ok(is_followed),
             None => {
                 let missing = self.receiver.missing()?;
@@ -127,7 +132,7 @@ impl<D: RunDepacketizer> RtpReceiver<D> {
         ensures { let r = ⟦<Self as ReceivesRtp>⟧.reception in
             result ≡ other_source (r self.now).types (header_view header.entry) }
     {
-        if self.types.begins(header.payload_type) {
+        if self.types.all().begins(header.payload_type) {
             RtpPushed::NewSource(header.ssrc)
         } else {
             RtpPushed::OtherSource(header.ssrc)
@@ -142,6 +147,27 @@ impl<D: RunDepacketizer> RtpReceiver<D> {
     /// session may miss the same number at a time, `follow` is to tell it. Without memory all stays as
     /// it was.
     pub fn push(
+        &mut self,
+        now: u32,
+        arrival: u32,
+        datagram: &[u8],
+    ) -> Result<RtpPushed, RtpPushError>
+        ensures { let r = ⟦<Self as ReceivesRtp>⟧.reception in
+            IsRtpPush now arrival (r self.old) datagram.now result (r self.new) }
+    {
+        if !is_rtcp(datagram) {
+            if let Ok(packet) = RtpDatagram::read(datagram) {
+                if self.is_plain(packet) {
+                    return self.push_plain(now, arrival, packet);
+                }
+            }
+        }
+        self.push_datagram(now, arrival, datagram)
+    }
+
+    /// Takes any datagram.
+    #[inline(never)]
+    fn push_datagram(
         &mut self,
         now: u32,
         arrival: u32,
@@ -176,6 +202,72 @@ impl<D: RunDepacketizer> RtpReceiver<D> {
         }
     }
 
+    /// Whether a packet of the SSRC that is followed bears the codec's payload by itself, as nearly all
+    /// do: neither RTX nor RED is to be undone.
+    #[inline(always)]
+    fn is_plain(&self, packet: RtpDatagram<'_>) -> bool
+        ensures { let r = ⟦<Self as ReceivesRtp>⟧.reception in
+            result ≡ is_plain_packet (r self.now) (datagram_view packet.entry) }
+    {
+        let header = packet.header;
+        self.sources.is_media(header.ssrc)
+            && self.types.is_plain(header.payload_type)
+            && !packet.payload.is_empty()
+    }
+
+    /// Takes a packet that bears the codec's payload by itself.
+    #[inline(always)]
+    fn push_plain(
+        &mut self,
+        now: u32,
+        arrival: u32,
+        packet: RtpDatagram<'_>,
+    ) -> Result<RtpPushed, RtpPushError>
+        requires { let r = ⟦<Self as ReceivesRtp>⟧.reception in
+            is_plain_packet (r self.old) (datagram_view packet) ≡ true }
+        ensures { let r = ⟦<Self as ReceivesRtp>⟧.reception in
+            IsPacketPush now arrival (r self.old) (datagram_view packet.entry) result (r self.new) }
+    {
+        self.push_itself(now, arrival, packet)
+    }
+
+    /// Takes a packet that brings itself, whose SSRC is known.
+    #[inline(always)]
+    fn push_itself(
+        &mut self,
+        now: u32,
+        arrival: u32,
+        packet: RtpDatagram<'_>,
+    ) -> Result<RtpPushed, RtpPushError>
+        requires { let r = ⟦<Self as ReceivesRtp>⟧.reception in
+            sources_with packet.header.ssrc (r self.old).sources ≡ (r self.old).sources }
+        ensures { let r = ⟦<Self as ReceivesRtp>⟧.reception in
+            IsOriginalPush now arrival (r self.old) (datagram_view packet.entry)
+            (plain_original (datagram_view packet.entry)) result (r self.new) }
+    {
+        let header = packet.header;
+        let payload = packet.payload;
+        let original = RtpPacket {
+            sequence: header.sequence,
+            timestamp: header.timestamp,
+            marker: header.marker,
+            payload,
+        };
+        match self.receiver.push(now, &original) {
+            Ok(pushed) => {
+                self.statistics
+                    .receive(arrival, header.sequence, header.timestamp, payload.len());
+                Ok(RtpPushed::Packet(RtpTaken {
+                    sequence: header.sequence,
+                    is_recovered: false,
+                    no_media: None,
+                    pushed,
+                }))
+            }
+            Err(e) => Err(RtpPushError::Packet(e)),
+        }
+    }
+
     /// Takes an RTP packet of the stream.
     fn push_followed(
         &mut self,
@@ -187,7 +279,7 @@ impl<D: RunDepacketizer> RtpReceiver<D> {
             IsBroughtPush now arrival (r self.old)
             (brought_original (r self.old).types (datagram_view packet.entry)) result (r self.new) }
     {
-        match RtpOriginal::read(self.types, packet) {
+        match RtpOriginal::read(self.types.all(), packet) {
             Ok(Some(original)) => self.push_original(now, arrival, packet, original),
             Ok(None) => Ok(RtpPushed::Probe),
             Err(e) => Err(RtpPushError::Red(e)),
@@ -249,11 +341,11 @@ impl<D: RunDepacketizer> RtpReceiver<D> {
         ensures kept { let r = ⟦<Self as ReceivesRtp>⟧.reception in
             OnErr result (IsRtpNextInPart now (r self.old) (r self.new)) }
     {
-        let unit = self.receiver.next(now)?;
-        if let Some(unit) = &unit {
+        let unit = self.receiver.next(now);
+        if let Ok(Some(unit)) = &unit {
             self.keyframes = self.keyframes.after(unit.is_clean, unit.is_disposable);
         }
-        Ok(unit)
+        unit
     }
 
     /// The numbers to ask for at this tick by a NACK, which count as asked for: the first so many of
@@ -320,6 +412,15 @@ impl<D: RunDepacketizer> RtpReceiver<D> {
         ensures { let r = ⟦<Self as ReceivesRtp>⟧.reception in r self.new ≡ r self.old }
     {
         self.receiver.give_back(unit);
+    }
+
+    /// The NAL units that came whole so far of the access unit that is open, as those of an
+    /// `AccessUnitReceiver`.
+    pub fn units_so_far(&self) -> Option<UnitsSoFar<'_>>
+        ensures { let r = ⟦<Self as ReceivesRtp>⟧.reception in
+            option_map units_so_far_value result ≡ open_units (r self.now).reception }
+    {
+        self.receiver.units_so_far()
     }
 
     /// When to call `next` again at the latest, in the receiver's ticks, if packets wait.

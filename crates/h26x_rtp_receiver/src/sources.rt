@@ -51,6 +51,17 @@ impl RtpSources {
         }
     }
 
+    /// Whether an SSRC is known to be that of the stream's packets.
+    #[inline(always)]
+    pub(crate) fn is_media(self, ssrc: u32) -> bool
+        ensures { result ≡ spec.is_ssrc self.media ssrc }
+    {
+        let Some(media) = self.media else {
+            return false;
+        };
+        media == ssrc
+    }
+
     /// Whether a packet is of the stream, where that is told by its SSRC.
     pub(crate) fn tell(self, types: RtpPayloadTypes, packet: RtpDatagram<'_>) -> Option<bool>
         ensures { result ≡ spec.told types self (datagram_view packet.entry) }

@@ -3,3 +3,4 @@ pub mod UnitLemmas
 pub mod NumberLemmas
 pub mod LawLemmas
 pub mod ReceivingLemmas
+pub mod EndLemmas

@@ -33,3 +33,13 @@ buffer_of_case = record {
   headroom = 13;
   memory = record { bytes = 31; ends = 8 };
 }
+
+-- the same packets in memory of a caller, with a byte behind them
+abbrev pub memory_of_case : List ℕ
+memory_of_case = 0 ∷ 0 ∷ 0 ∷ 0 ∷ 0 ∷ 0 ∷ 0 ∷ 0 ∷ 0 ∷ 0 ∷ 0 ∷ 0 ∷ 0 ∷ 0x7c ∷ 0x85 ∷ 1
+    ∷ 7 ∷ 0 ∷ 0 ∷ 0 ∷ 0 ∷ 0 ∷ 0 ∷ 0 ∷ 0 ∷ 0 ∷ 0 ∷ 0 ∷ 0 ∷ 0x41 ∷ 2 ∷ 9 ∷ []
+
+-- that memory once they were sent
+abbrev pub sent_memory_of_case : List ℕ
+sent_memory_of_case = 0 ∷ 0x80 ∷ 0x60 ∷ 0xff ∷ 0xff ∷ 0 ∷ 0 ∷ 0 ∷ 9 ∷ 0 ∷ 0 ∷ 0 ∷ 1 ∷ 0x7c ∷ 0x85 ∷ 1
+    ∷ 7 ∷ 0x80 ∷ 0xe0 ∷ 0 ∷ 0 ∷ 0 ∷ 0 ∷ 0 ∷ 9 ∷ 0 ∷ 0 ∷ 0 ∷ 1 ∷ 0x41 ∷ 2 ∷ 9 ∷ []

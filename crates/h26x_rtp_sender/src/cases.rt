@@ -4,10 +4,12 @@
 ghost use Rattle.std.specs.Prelude.{◌≡◌, true, false, None, Some, Ok, Err, [], ◌∷◌};
 ghost use Rattle.h26x_access_units.specs.declared.config.AccessUnitConfig.{AccessUnitConfig};
 ghost use Rattle.h26x_model.specs.Receive.DepacketizerState.{DepacketizerState};
+ghost use Rattle.h26x_packetizer.specs.Buffer.{packets_from};
 ghost use Rattle.h26x_rtp.specs.Datagram.{datagram_bytes};
 ghost use Rattle.h26x_rtp_receiver.specs.Cases.{receiver_of_case};
-ghost use Rattle.h26x_rtp_sender.specs.Cases.{unit_of_case, sent_of_case, media_of_case, rtx_of_case, sender_of_case, buffer_of_case};
+ghost use Rattle.h26x_rtp_sender.specs.Cases.{unit_of_case, sent_of_case, media_of_case, rtx_of_case, sender_of_case, buffer_of_case, memory_of_case, sent_memory_of_case};
 ghost use Rattle.h26x_rtp_sender.specs.History.{AreHeldBefore, last_within, has_place, held_of};
+ghost use Rattle.h26x_rtp_sender.specs.InMemory.{are_in_memory, IsSendInMemory};
 ghost use Rattle.h26x_rtp_sender.specs.Receiving.{IsReceiverOf, IsReceiverBy};
 ghost use Rattle.h26x_rtp_sender.specs.Sending.{IsSend, nothing_sent, count_with, count_with_all, headed_from, with_headers, once_sent, packet_again, after_again};
 ghost use Rattle.h26x_rtp_sender.specs.Sent.{numbered_packets, packet_headers};
@@ -110,4 +112,19 @@ pub fn calls_and_a_receiver()
         IsReceiverOf (receiver_of_case config state) unit_of_case }
     ensures by_rtx { (config : AccessUnitConfig) (state : DepacketizerState) →
         IsReceiverBy (receiver_of_case config state) (rtx_of_case 500) unit_of_case }
+{}
+
+/// Packets in memory, each behind a headroom of 13, with a byte behind them: where they may end, which
+/// they are, and a call of `send_in_memory` that sends them, one without room for headers of 12 bytes.
+pub fn packets_in_memory()
+    ensures lie { are_in_memory 13 0 31 (16 ∷ 31 ∷ []) ≡ true }
+    ensures none { are_in_memory 13 0 0 [] ≡ true }
+    ensures without_headroom { are_in_memory 13 0 31 (16 ∷ 28 ∷ []) ≡ false }
+    ensures past { are_in_memory 13 0 30 (16 ∷ 31 ∷ []) ≡ false }
+    ensures back { are_in_memory 0 0 31 (16 ∷ 15 ∷ []) ≡ false }
+    ensures which { packets_from 13 0 memory_of_case (16 ∷ 31 ∷ []) ≡ buffer_of_case.packets }
+    ensures sends { IsSendInMemory 9 None sender_of_case 13 (16 ∷ 31 ∷ []) memory_of_case (Ok 1)
+        (once_sent unit_of_case buffer_of_case.packets sender_of_case) sent_memory_of_case }
+    ensures refuses { IsSendInMemory 9 None sender_of_case 11 (14 ∷ []) memory_of_case
+        (Err (RtpSendError.Header (RtpWriteError.NoRoom 12))) sender_of_case memory_of_case }
 {}

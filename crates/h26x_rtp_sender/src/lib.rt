@@ -7,6 +7,7 @@ mod count;
 mod error;
 mod history;
 pub mod laws;
+mod payloads;
 mod sender;
 mod sent;
 mod stream;
@@ -14,5 +15,6 @@ mod unit;
 
 pub use count::SentCount;
 pub use error::RtpSendError;
+pub use payloads::are_in_memory;
 pub use sender::RtpSender;
 pub use stream::RtpStream;

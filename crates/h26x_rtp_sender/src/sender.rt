@@ -1,10 +1,12 @@
 //! A sender that makes RTP packets of the packets of access units.
 
-ghost use Rattle.std.specs.Prelude.{◌≡◌, ◌≤◌, false, Err, OnOk, OnErr, length};
+ghost use Rattle.std.specs.Prelude.{◌≡◌, ◌≤◌, true, false, Err, OnOk, OnErr, length};
 ghost use Rattle.std.specs.Option.{option_map};
+ghost use Rattle.h26x_packetizer.specs.Buffer.{ArePacketEnds, last_end, packets_from};
 ghost use Rattle.h26x_rtp.specs.Datagram.{HeaderFits};
 ghost use Rattle.h26x_rtp.specs.Views.{extension_view};
-ghost use Rattle.h26x_rtp_sender.specs.Sending.{fresh_sender, unit_header, once_sent, with_headers, IsSend, IsResend};
+ghost use Rattle.h26x_rtp_sender.specs.InMemory.{are_in_memory, IsSendInMemory};
+ghost use Rattle.h26x_rtp_sender.specs.Sending.{fresh_sender, unit_of, unit_header, once_sent, with_headers, IsSend, IsResend};
 ghost use Rattle.h26x_rtp_sender.specs.Sent.{unit_view, packet_header, packet_headers};
 
 use crate::count::SentCount;
@@ -78,12 +80,7 @@ impl RtpSender {
         ensures { IsSend timestamp (option_map extension_view extension.entry) self.old packets.old
             result self.new packets.new }
     {
-        let unit = UnitHeader {
-            payload_type: self.media.payload_type,
-            timestamp,
-            ssrc: self.media.ssrc,
-            extension,
-        };
+        let unit = self.unit(timestamp, extension);
         match unit.test(packets.headroom()) {
             Ok(start) => {
                 self.send_unit(unit, packets)?;
@@ -93,7 +90,78 @@ impl RtpSender {
         }
     }
 
+    /// The same of packets that lie in memory of the caller, as
+    /// [`packetize_units_to_memory`](h26x_packetizer::PayloadPacketizer::packetize_units_to_memory)
+    /// leaves them: one behind the other up to these ends, each behind its headroom, where
+    /// [`are_in_memory`](crate::are_in_memory) says that they do. Nothing but the headers is written.
+    ///
+    /// ```rust
+    /// let start = sender.send_in_memory(timestamp, None, headroom, &ends, &mut memory)?;
+    /// ```
+    #[tactic(auto, using(crate::proofs::EndLemmas::in_order, crate::proofs::EndLemmas::ends_within))]
+    pub fn send_in_memory(
+        &mut self,
+        timestamp: u32,
+        extension: Option<RtpExtension<'_>>,
+        headroom: usize,
+        ends: &[usize],
+        memory: &mut [u8],
+    ) -> Result<usize, RtpSendError>
+        requires { are_in_memory headroom 0 (length memory.old) ends.now ≡ true }
+        ensures { IsSendInMemory timestamp (option_map extension_view extension.entry) self.old
+            headroom ends.now memory.old result self.new memory.new }
+    {
+        let unit = self.unit(timestamp, extension);
+        match unit.test(headroom) {
+            Ok(start) => {
+                let first = self.media.sequence;
+                self.take(unit, headroom, ends, memory)?;
+                unit.put_all_in_memory(first, headroom, ends, memory);
+                Ok(start)
+            }
+            Err(error) => Err(RtpSendError::Header(error)),
+        }
+    }
+
+    /// What the headers of an access unit's packets have in common.
+    fn unit<'a>(&self, timestamp: u32, extension: Option<RtpExtension<'a>>) -> UnitHeader<'a>
+        ensures { unit_view result
+            ≡ unit_of self.now timestamp (option_map extension_view extension.entry) }
+    {
+        UnitHeader {
+            payload_type: self.media.payload_type,
+            timestamp,
+            ssrc: self.media.ssrc,
+            extension,
+        }
+    }
+
+    /// Holds copies of the packets of an access unit of which this is the header, and counts them.
+    #[tactic(auto, using(crate::proofs::EndLemmas::packets_count))]
+    fn take(
+        &mut self,
+        unit: UnitHeader<'_>,
+        headroom: usize,
+        ends: &[usize],
+        bytes: &[u8],
+    ) -> Result<(), RtpSendError>
+        requires order { ArePacketEnds headroom 0 ends.now }
+        requires within { last_end 0 ends.now ≤ length bytes.now }
+        ensures taken { OnOk result (self.new ≡ once_sent (unit_view unit.entry)
+            (packets_from headroom 0 bytes.now ends.now) self.old) }
+        ensures memory { OnErr result (result ≡ Err RtpSendError.OutOfMemory) }
+        ensures kept { OnErr result (self.new ≡ self.old) }
+    {
+        let first = self.media.sequence;
+        let made = unit_packets(self.alloc, unit, first, headroom, ends, bytes)?;
+        self.history.take(made)?;
+        self.sent = self.sent.with_all(headroom, ends, bytes);
+        self.media = self.media.behind(ends.len());
+        Ok(())
+    }
+
     /// Sends the packets of an access unit of which this is the header.
+    #[tactic(auto, using(crate::proofs::EndLemmas::buffer_in_order))]
     fn send_unit(
         &mut self,
         unit: UnitHeader<'_>,
@@ -111,10 +179,12 @@ impl RtpSender {
         ensures unheaded { OnErr result (packets.new ≡ packets.old) }
     {
         let first = self.media.sequence;
-        let made = unit_packets(self.alloc, unit, first, packets)?;
-        self.history.take(made)?;
-        self.sent = self.sent.with_all(packets);
-        self.media = self.media.behind(packets.len());
+        self.take(
+            unit,
+            packets.headroom(),
+            packets.packet_ends(),
+            packets.bytes(),
+        )?;
         unit.put_all(first, packets);
         Ok(())
     }

@@ -1,12 +1,13 @@
 //! Packets that were sent and are held.
 
-ghost use Rattle.std.specs.Prelude.{◌≡◌, IfOk, map};
+ghost use Rattle.std.specs.Prelude.{◌≡◌, ◌≤◌, IfOk, map, length};
 ghost use Rattle.std.specs.Option.{option_map};
+ghost use Rattle.h26x_packetizer.specs.Buffer.{ArePacketEnds, last_end, packets_from};
 ghost use Rattle.h26x_rtp.specs.Views.{extension_view, datagram_view};
 ghost use Rattle.h26x_rtp_sender.specs.Sent.{held_extension, unit_view, sent_view, packet_of, numbered_packets};
 
+use crate::payloads::Payloads;
 use crate::unit::UnitHeader;
-use h26x_packetizer::PacketBuffer;
 use h26x_rtp::{RtpDatagram, RtpExtension, RtpHeader};
 use std::alloc::{AllocError, Global};
 use std::collections::VecDeque;
@@ -99,21 +100,27 @@ impl SentPacket {
     }
 }
 
-/// The packets of an access unit, of which the first has this number.
+/// The packets of an access unit, of which the first has this number, and whose payloads end at these
+/// places of memory.
+#[tactic(auto, using(crate::proofs::EndLemmas::packets_count))]
 pub(crate) fn unit_packets(
     alloc: Global,
     unit: UnitHeader<'_>,
     first: u16,
-    packets: &PacketBuffer,
+    headroom: usize,
+    ends: &[usize],
+    bytes: &[u8],
 ) -> Result<VecDeque<SentPacket>, AllocError>
-    ensures { IfOk result (λ made. map sent_view made.items
-        ≡ numbered_packets (unit_view unit.entry) first packets.now.packets) }
+    requires order { ArePacketEnds headroom 0 ends.now }
+    requires within { last_end 0 ends.now ≤ length bytes.now }
+    ensures { IfOk result (λ made. map sent_view made.items ≡ numbered_packets
+        (unit_view unit.entry) first (packets_from headroom 0 bytes.now ends.now)) }
 {
     let mut made = VecDeque::new(alloc);
-    made.reserve(packets.len())?;
+    made.reserve(ends.len())?;
     let mut sequence = first;
-    let mut left = packets.len();
-    for payload in packets.iter() {
+    let mut left = ends.len();
+    for payload in Payloads::new(headroom, ends, bytes) {
         let packet = SentPacket::new(alloc, unit, sequence, left == 1, payload)?;
         made.push_back_reserved(packet);
         sequence = sequence.wrapping_add(1);

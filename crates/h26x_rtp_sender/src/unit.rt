@@ -1,9 +1,11 @@
 //! What the headers of an access unit's packets have in common.
 
-ghost use Rattle.std.specs.Prelude.{◌≡◌, ◌≤◌, ◌<◌, ◌+◌, min, false, length};
-ghost use Rattle.h26x_packetizer.specs.Buffer.{headed_at};
+ghost use Rattle.std.specs.Prelude.{◌≡◌, ◌≤◌, ◌<◌, ◌+◌, min, false, Ok, length};
+ghost use Rattle.h26x_packetizer.specs.Buffer.{ArePacketEnds, headed_at, last_end, packets_from};
 ghost use Rattle.h26x_rtp.specs.Datagram.{HeaderFits, datagram_header};
 ghost use Rattle.h26x_rtp.specs.Views.{header_view};
+ghost use Rattle.h26x_rtp.specs.Writing.{IsHeaderWritten};
+ghost use Rattle.h26x_rtp_sender.specs.InMemory.{headed_before};
 ghost use Rattle.h26x_rtp_sender.specs.Sent.{unit_view, packet_header, packet_headers};
 ghost use Rattle.h26x_rtp_sender.specs.Sending.{IsUnitTest, headed_from};
 
@@ -93,6 +95,48 @@ impl<'a> UnitHeader<'a> {
         for place in 0..count {
             self.put(sequence, place + 1 == count, place, packets);
             sequence = sequence.wrapping_add(1);
+        }
+    }
+    /// Writes the header of a packet right before its place in memory; where it begins.
+    fn put_before(self, sequence: u16, marker: bool, place: usize, memory: &mut [u8]) -> usize
+        requires fits { HeaderFits (packet_header (unit_view self) 0 false) }
+        requires room { length (datagram_header (packet_header (unit_view self) 0 false) false)
+            ≤ place }
+        requires within { place ≤ length memory.old }
+        ensures written { IsHeaderWritten (packet_header (unit_view self.entry) sequence marker)
+            false place memory.old memory.new (Ok result) }
+        ensures size { length memory.new ≡ length memory.old }
+    {
+        self.header(sequence, marker)
+            .write_before(false, place, memory)
+            .unwrap()
+    }
+
+    /// Writes the headers of all packets that end at these places of memory, as `put_all`.
+    pub(crate) fn put_all_in_memory(
+        self,
+        first: u16,
+        headroom: usize,
+        ends: &[usize],
+        memory: &mut [u8],
+    )
+        requires fits { HeaderFits (packet_header (unit_view self) 0 false) }
+        requires room { length (datagram_header (packet_header (unit_view self) 0 false) false)
+            ≤ headroom }
+        requires order { ArePacketEnds headroom 0 ends.now }
+        requires within { last_end 0 ends.now ≤ length memory.old }
+        ensures { memory.new ≡ headed_before headroom 0 ends.now (packet_headers
+            (unit_view self.entry) first (packets_from headroom 0 memory.old ends.now))
+            memory.old }
+    {
+        let mut sequence = first;
+        let mut start = 0;
+        let mut left = ends.len();
+        for end in ends.iter() {
+            self.put_before(sequence, left == 1, start + headroom, memory);
+            sequence = sequence.wrapping_add(1);
+            start = *end;
+            left -= 1;
         }
     }
 }
