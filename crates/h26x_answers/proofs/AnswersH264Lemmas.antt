@@ -15,7 +15,7 @@ use Rattle.h26x_fmtp.specs.Parameters.{AreValues, AreParameters}
 use Rattle.h26x_fmtp.specs.Reading.{FormatParameters, value_at}
 use Rattle.h26x_sdp.specs.H264Rows.{rows, row_place}
 use Rattle.h26x_answers.specs.Answers.{Terms, only_if, answered_values, answered, are_symmetric, common_terms, answer_by, same_number, holds}
-use Rattle.h26x_answers.specs.AnswersH264.{roles, rules, number, is_on, unsaid_id, id_of, profile_level_id_of, profile_level_id_text, at_level_of, level_rank, takes_profile, highest_of, highest_rank, is_interleaved, can_deinterleave, can_order, both_asymmetric, answer_level, answer_id, rank_back, may_tell_sets, with_level_sets, terms_at, terms_of_ids, terms}
+use Rattle.h26x_answers.specs.AnswersH264.{roles, rules, number, is_on, unsaid_id, id_of, profile_level_id_of, profile_level_id_text, at_level_of, level_rank, same_profile, takes_profile, highest_of, highest_rank, is_interleaved, can_deinterleave, can_order, both_asymmetric, answer_level, answer_id, rank_back, may_tell_sets, with_level_sets, terms_at, terms_of_ids, terms}
 use Rattle.h26x_answers.specs.AllowedH264.{IsSameProfile, IsH264Answer, MaySend, rank_to_use}
 use Rattle.h26x_fmtp.proofs.PartLemmas.{by_test}
 use Rattle.h26x_answers.proofs.AnswersLemmas.{answered_at, answer_parts}
@@ -169,7 +169,7 @@ lower false a b h = by_test (nat_lt (level_rank b) (level_rank a))
     omega (arith, e))
 
 -- what belongs nowhere is absent
-absent : (belongs : Bool) (value own : Option (List ℕ)) → value ≡ only_if belongs own → belongs ≡ false → value ≡ None
+pub absent : (belongs : Bool) (value own : Option (List ℕ)) → value ≡ only_if belongs own → belongs ≡ false → value ≡ None
 absent belongs value own here fails = here ∙ ap (λ t. only_if t own) fails
 
 -- and what belongs there is our own
@@ -233,8 +233,12 @@ allowed by offered own answer of_offered of_own h =
     let interleaved : is_interleaved answer ≡ is_interleaved offered = ap (λ n. same_number n (Some 2)) mode in
     let both = asymmetry_kept offered own answer (at.asymmetry ∙ ap (λ (t : Terms). only_if t.asymmetric (value_at own.values 13)) agreed.is) in
     let reorders : found.reorders ≡ is_interleaved offered = ap (λ (t : Terms). t.reorders) agreed.is in
-    let sets : found.sets ≡ may_tell_sets offered back (level_rank level) (level_rank b) = ap (λ (t : Terms). t.sets) agreed.is in
-    let level_sets : found.level_sets ≡ with_level_sets offered back (level_rank level) = ap (λ (t : Terms). t.level_sets) agreed.is in
+    let sets : found.sets ≡ (same_profile a b && may_tell_sets offered back (level_rank level) (level_rank b)) = ap (λ (t : Terms). t.sets) agreed.is in
+    let level_sets : found.level_sets ≡ (same_profile a b && with_level_sets offered back (level_rank level)) = ap (λ (t : Terms). t.level_sets) agreed.is in
+    let no_sets : may_tell_sets offered back (level_rank level) (level_rank b) ≡ false → found.sets ≡ false =
+    λ fails. sets ∙ ap (λ t. same_profile a b && t) fails ∙ and_false (same_profile a b) in
+    let no_level_sets : with_level_sets offered back (level_rank level) ≡ false → found.level_sets ≡ false =
+    λ fails. level_sets ∙ ap (λ t. same_profile a b && t) fails ∙ and_false (same_profile a b) in
     let order : is_interleaved answer ≡ false → found.reorders ≡ false = λ fails. reorders ∙ sym interleaved ∙ fails in
     let reordered : is_interleaved answer ≡ true → found.reorders ≡ true = λ passes. reorders ∙ sym interleaved ∙ passes in
     record {
@@ -246,13 +250,13 @@ allowed by offered own answer of_offered of_own h =
       mode = mode;
       level = λ fails. subst (λ n. n ≤ level_rank a) (sym says.level) (lower asymmetric a b (sym both ∙ fails));
       one_kind = elim (one_kind_only offered back (level_rank level) (level_rank b)) [
-        | inl fails ↦ inl (absent found.sets (value_at answer.values 9) (value_at own.values 9) at.sets (sets ∙ fails))
-        | inr fails ↦ inr (absent found.level_sets (value_at answer.values 10) (value_at own.values 10) at.level_sets (level_sets ∙ fails))
+        | inl fails ↦ inl (absent found.sets (value_at answer.values 9) (value_at own.values 9) at.sets (no_sets fails))
+        | inr fails ↦ inr (absent found.level_sets (value_at answer.values 10) (value_at own.values 10) at.level_sets (no_level_sets fails))
       ];
       in_band = λ asked.
           let fails = none_in_band offered back (level_rank level) (level_rank b) asked in (
-            absent found.sets (value_at answer.values 9) (value_at own.values 9) at.sets (sets ∙ fails.0),
-            absent found.level_sets (value_at answer.values 10) (value_at own.values 10) at.level_sets (level_sets ∙ fails.1),
+            absent found.sets (value_at answer.values 9) (value_at own.values 9) at.sets (no_sets fails.0),
+            absent found.level_sets (value_at answer.values 10) (value_at own.values 10) at.level_sets (no_level_sets fails.1),
           );
       in_order = λ fails. (
         absent found.reorders (value_at answer.values 15) (value_at own.values 15) at.depth (order fails),

@@ -19,7 +19,7 @@ use Rattle.h26x_fmtp.specs.Parameters.{AreParameters}
 use Rattle.h26x_fmtp.specs.Reading.{FormatParameters, value_at}
 use Rattle.h26x_sdp.specs.H264Rows.{rows}
 use Rattle.h26x_answers.specs.Answers.{Terms, only_if, answered, answered_value, are_symmetric, common_terms, answer_by, same_number, holds}
-use Rattle.h26x_answers.specs.AnswersH264.{roles, rules, number, is_on, id_of, profile_flags, level_rank, sub_profile, same_sub_profile, profile_place, is_constrained_of, constrained_sub_profile, same_profile, takes_profile, at_level_of, is_interleaved, can_deinterleave, can_order, both_asymmetric, answer_level, terms_at, terms_of_ids, terms}
+use Rattle.h26x_answers.specs.AnswersH264.{roles, rules, number, is_on, id_of, profile_flags, level_rank, sub_profile, same_sub_profile, profile_place, is_constrained_of, constrained_sub_profile, same_profile, takes_profile, at_level_of, is_interleaved, can_deinterleave, can_order, both_asymmetric, answer_level, rank_back, may_tell_sets, with_level_sets, terms_at, terms_of_ids, terms}
 use Rattle.h26x_answers.specs.AllowedH264.{IsSameProfile}
 use Rattle.h26x_answers.specs.ConfigurationsH264.{Configuration, IsOfSubProfile, IsOneSubProfile, AreOfOneProfile, IsConstrainedOf, IsConstrained, IsOfProfile, IsOfOfferedProfile, Says, IsPutInOrder, IsCommon, AllowsAsymmetry, IsOurAnswer}
 use Rattle.h26x_fmtp.proofs.PartLemmas.{by_test}
@@ -27,7 +27,7 @@ use Rattle.h26x_fmtp.proofs.TestLemmas.{both_true}
 use Rattle.h26x_answers.proofs.AnswersLemmas.{answer_parts, answered_at}
 use Rattle.h26x_answers.proofs.SymmetricLemmas.{symmetric_row, agree_symmetric, number_parts, same_numbers, numbers_same}
 use Rattle.h26x_answers.proofs.IdLemmas.{profile_kept, level_moved}
-use Rattle.h26x_answers.proofs.AnswersH264Lemmas.{long_values, agreed_common, id_of_bytes, level_bytes, answer_says, answer_rows, number_same}
+use Rattle.h26x_answers.proofs.AnswersH264Lemmas.{long_values, agreed_common, id_of_bytes, level_bytes, answer_says, answer_rows, number_same, absent}
 
 -- ---- profiles
 
@@ -471,6 +471,10 @@ own_to_offered Rfc offered own a b c of_a of_b taken offers said =
 own_to_offered Webrtc offered own a b c of_a of_b taken offers said =
     subst (λ i. IsOfProfile Webrtc c.id i) (some_id offers.id a (sym offers.said ∙ of_a)) offers.profile
 
+-- whose profiles aren't one
+not_one : (a b : ProfileLevelId) → (AreOfOneProfile a b → ⊥) → same_profile a b ≡ false
+not_one a b never = by_test (same_profile a b) (λ same. absurd (never (one_profile a b same))) (λ other. other)
+
 -- each answer is by what was offered and by what we can do
 pub h264_ours : (by : AnswerRules) (offered own answer : FormatParameters) → AreParameters rows offered → AreParameters rows own → answer_by (rules by) offered own ≡ Some answer → IsOurAnswer by offered own answer
 h264_ours by offered own answer of_offered of_own h =
@@ -598,4 +602,14 @@ h264_ours by offered own answer of_offered of_own h =
           ),
         ),
       );
+      sets = λ x y of_x of_y other.
+          let same_x : x ≡ a = some_id x a (sym of_x ∙ agreed.offer_says) in
+          let same_y : y ≡ b = some_id y b (sym of_y ∙ agreed.own_says) in
+          let fails : same_profile a b ≡ false = not_one a b (λ one. other (subst (λ i. AreOfOneProfile i y) (sym same_x) (subst (λ j. AreOfOneProfile a j) (sym same_y) one))) in
+          let back = rank_back offered asymmetric a level in (
+            absent found.sets (value_at answer.values 9) (value_at own.values 9) at.sets
+                (ap (λ (t : Terms). t.sets) agreed.is ∙ ap (λ t. t && may_tell_sets offered back (level_rank level) (level_rank b)) fails),
+            absent found.level_sets (value_at answer.values 10) (value_at own.values 10) at.level_sets
+                (ap (λ (t : Terms). t.level_sets) agreed.is ∙ ap (λ t. t && with_level_sets offered back (level_rank level)) fails),
+          );
     }

@@ -97,7 +97,7 @@ flags_of it profile flags of_profile said = elim said [
 -- ---- H.265: what two ends have in common
 
 -- the same of what says more of a profile than its number
-abbrev SameFurther : AnswerRules → FormatParameters → FormatParameters → Type 0
+abbrev pub SameFurther : AnswerRules → FormatParameters → FormatParameters → Type 0
 SameFurther Rfc x y = (option_map (map to_ascii_lowercase) (c265.text x p.InteropConstraints) ≡ option_map (map to_ascii_lowercase) (c265.text y p.InteropConstraints))
     × (h265.compatible_profiles x ≡ h265.compatible_profiles y)
 SameFurther Webrtc x y = Unit {0}
@@ -124,7 +124,7 @@ further_kept Rfc x y profile constraints indicator =
 further_kept Webrtc x y profile constraints indicator = tt
 
 -- two ends that are of one configuration, whatever their levels
-record Same265 (which : AnswerRules) (x y : FormatParameters) : Type 0 where
+pub record Same265 (which : AnswerRules) (x y : FormatParameters) : Type 0 where
   pub profile_space : c265.number x p.ProfileSpace ≡ c265.number y p.ProfileSpace
   pub profile : c265.number x p.ProfileId ≡ c265.number y p.ProfileId
   pub tier : c265.number x p.TierFlag ≡ c265.number y p.TierFlag
@@ -140,7 +140,7 @@ back_265 which x y same = record {
   mode = sym same.mode;
 }
 
-end_265 : (which : AnswerRules) (x y : FormatParameters) (c : c265.Configuration) → Same265 which x y → c265.IsOfEnd which x c → c265.IsOfEnd which y c
+pub end_265 : (which : AnswerRules) (x y : FormatParameters) (c : c265.Configuration) → Same265 which x y → c265.IsOfEnd which x c → c265.IsOfEnd which y c
 end_265 which x y c same of =
     let profile = sym same.profile ∙ of.profile in
     record {
@@ -185,13 +185,13 @@ agree_265 Rfc offered own c t u = both_true (h265.same_constraints offered own) 
     (flags_of offered c.profile c.compatible t.profile t.constrained.compatible) (flags_of own c.profile c.compatible u.profile u.constrained.compatible))
 
 -- a configuration of an offer at a level
-record Offer265 (which : AnswerRules) (offered own : FormatParameters) : Type 0 where
+pub record Offer265 (which : AnswerRules) (offered own : FormatParameters) : Type 0 where
   pub of : ℕ → c265.Configuration
   pub level : (n : ℕ) → (of n).level ≡ n
   pub theirs : (n : ℕ) → c265.IsOfEnd which offered (of n)
   pub same : Same265 which offered own
 
-offer_265 : (which : AnswerRules) (offered own : FormatParameters) → AreParameters (h265.rules which).rows offered → AreParameters (h265.rules which).rows own → are_symmetric (h265.rules which).roles (h265.rules which).rows offered.values own.values ≡ true
+pub offer_265 : (which : AnswerRules) (offered own : FormatParameters) → AreParameters (h265.rules which).rows offered → AreParameters (h265.rules which).rows own → are_symmetric (h265.rules which).roles (h265.rules which).rows offered.values own.values ≡ true
     → h265.agree which offered own ≡ true → Offer265 which offered own
 offer_265 which offered own of_offered of_own h flags =
     let w0 : 0 < 30 = omega arith in
@@ -510,7 +510,7 @@ vps_kept offered own found keeps layers =
 
 -- ---- H.266: what two ends have in common
 
-record Same266 (x y : FormatParameters) : Type 0 where
+pub record Same266 (x y : FormatParameters) : Type 0 where
   pub profile : c266.number x q.ProfileId ≡ c266.number y q.ProfileId
   pub tier : c266.number x q.TierFlag ≡ c266.number y q.TierFlag
   pub sub_profile : value_at x.values 2 ≡ value_at y.values 2
@@ -519,7 +519,7 @@ record Same266 (x y : FormatParameters) : Type 0 where
 back_266 : (x y : FormatParameters) → Same266 x y → Same266 y x
 back_266 x y same = record { profile = sym same.profile; tier = sym same.tier; sub_profile = sym same.sub_profile; constraints = sym same.constraints }
 
-end_266 : (x y : FormatParameters) (c : c266.Configuration) → Same266 x y → c266.IsOfEnd x c → c266.IsOfEnd y c
+pub end_266 : (x y : FormatParameters) (c : c266.Configuration) → Same266 x y → c266.IsOfEnd x c → c266.IsOfEnd y c
 end_266 x y c same of = record {
   profile = sym same.profile ∙ of.profile;
   tier = sym same.tier ∙ of.tier;
@@ -527,13 +527,13 @@ end_266 x y c same of = record {
   constraints = sym same.constraints ∙ of.constraints;
 }
 
-record Offer266 (offered own : FormatParameters) : Type 0 where
+pub record Offer266 (offered own : FormatParameters) : Type 0 where
   pub of : ℕ → c266.Configuration
   pub level : (n : ℕ) → (of n).level ≡ n
   pub theirs : (n : ℕ) → c266.IsOfEnd offered (of n)
   pub same : Same266 offered own
 
-offer_266 : (offered own : FormatParameters) → AreParameters h266.rules.rows offered → AreParameters h266.rules.rows own → are_symmetric h266.rules.roles h266.rules.rows offered.values own.values ≡ true → Offer266 offered own
+pub offer_266 : (offered own : FormatParameters) → AreParameters h266.rules.rows offered → AreParameters h266.rules.rows own → are_symmetric h266.rules.roles h266.rules.rows offered.values own.values ≡ true → Offer266 offered own
 offer_266 offered own of_offered of_own h =
     let w0 : 0 < 20 = omega arith in
     let w1 : 1 < 20 = omega arith in

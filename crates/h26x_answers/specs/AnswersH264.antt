@@ -101,6 +101,12 @@ is_1b it = (it.level_idc == 9)
 abbrev pub level_rank : ProfileLevelId → ℕ
 level_rank it = if is_1b it then 21 else 2 * it.level_idc
 
+-- the same of three bytes as in profile-level-id, whose text is six digits
+abbrev pub level_of_id : List ℕ → ℕ
+level_of_id (idc ∷ iop ∷ level ∷ []) =
+    level_rank (record { profile_idc = idc; profile_iop = iop; level_idc = level })
+level_of_id other = 0
+
 -- the sub-profile that table 5 has of the three bytes
 abbrev pub sub_profile : ProfileLevelId → Option H264Profile
 sub_profile it = option_and_then (λ idc. profile_of idc (profile_flags it)) (idc_of it.profile_idc)
@@ -232,7 +238,8 @@ rank_back offered asymmetric a level =
     if asymmetric then highest_rank offered a else level_rank level
 
 -- parameter sets of the answer's level: where they aren't to be sent in band, the level to use is the
--- answer's, and our own are of that level
+-- answer's, and our own are of that level; of another profile than the answer's, which is the offered
+-- one, ours are never told
 abbrev pub may_tell_sets : FormatParameters → ℕ → ℕ → ℕ → Bool
 may_tell_sets offered back answer own = not (is_on offered p.InBandParameterSets)
     && ((back == answer) && (answer == own))
@@ -251,8 +258,10 @@ terms_at offered asymmetric a b level = record {
   highest = None;
   asymmetric = asymmetric;
   reorders = is_interleaved offered;
-  sets = may_tell_sets offered (rank_back offered asymmetric a level) (level_rank level) (level_rank b);
-  level_sets = with_level_sets offered (rank_back offered asymmetric a level) (level_rank level);
+  sets = same_profile a b && may_tell_sets offered (rank_back offered asymmetric a level)
+      (level_rank level) (level_rank b);
+  level_sets = same_profile a b
+      && with_level_sets offered (rank_back offered asymmetric a level) (level_rank level);
 }
 
 abbrev pub terms_of_ids : AnswerRules → FormatParameters → FormatParameters →
@@ -378,8 +387,13 @@ fault_with it rank (Some text) = if nat_le (recv_rank text) rank then Some fault
 abbrev pub fault_received : FormatParameters → ℕ → Option FormatFault
 fault_received it rank = fault_with it rank (value_at it.values (row_place p.MaxRecvLevel))
 
+-- 9 is level 1b of the profiles alone whose flag is none of the level (Rec. ITU-T H.264, A.3.1 and
+-- A.3.2)
+abbrev pub is_1b_without_flag : ProfileLevelId → Bool
+is_1b_without_flag it = has_level_flag it && (it.level_idc == 9)
+
 abbrev pub is_level : ProfileLevelId → Bool
-is_level id = is_some (limits_of (level_rank id))
+is_level id = not (is_1b_without_flag id) && is_some (limits_of (level_rank id))
 
 -- each profile_idc of the standard (Rec. ITU-T H.264, Annexes A and G to J): those of one layer and
 -- view, and those of scalable, multiview and depth profiles

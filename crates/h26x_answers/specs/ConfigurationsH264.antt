@@ -152,7 +152,8 @@ IsOfOfferedProfile Webrtc offered configuration = IsOfOffered offered configurat
 -- nor, unless both ends allow a level for each direction, what the offer doesn't; of what both say
 -- nothing is left out, and where both ends allow it nothing of ours that is of the offered profile. It
 -- takes no more than we receive, and allows a level for each direction only where both ends do. What it
--- says of our stream and of us as a receiver is our own
+-- says of our stream and of us as a receiver is our own; parameter sets of another profile than the
+-- offered one, which the answer says, it doesn't tell (section 8.1, profile-level-id)
 pub record IsOurAnswer (by : AnswerRules) (offered own answer : FormatParameters) : Type 0 where
   pub ours : (it : Configuration) → Says by answer it → Says by own it
   pub theirs : (AllowsAsymmetry offered → AllowsAsymmetry own → ⊥) → (it : Configuration) →
@@ -164,3 +165,7 @@ pub record IsOurAnswer (by : AnswerRules) (offered own answer : FormatParameters
   pub asymmetry : AllowsAsymmetry answer → AllowsAsymmetry offered × AllowsAsymmetry own
   pub capable : AllByRecursion (SameValue answer own) capabilities
   pub stream : AllByRecursion (IsNoneOrOurs own answer) stream_properties
+  pub sets : (a b : ProfileLevelId) → id_of by offered ≡ Some a → id_of by own ≡ Some b →
+      (AreOfOneProfile a b → ⊥) →
+      (value_at answer.values (row_place p.SpropParameterSets) ≡ None)
+      × (value_at answer.values (row_place p.SpropLevelParameterSets) ≡ None)

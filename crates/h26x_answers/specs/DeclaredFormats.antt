@@ -11,7 +11,9 @@ use Rattle.h26x_fmtp.specs.Reading.{FormatParameters}
 use Rattle.h26x_answers.specs.Answers.{Rules, are_symmetric, takes_order, own_fault}
 use Rattle.h26x_answers.specs.AnswersByLevel.{LevelRows, levels_of, can_hold}
 use Rattle.h26x_answers.specs.AnswersH264 as h264
-use Rattle.h26x_answers.specs.ConfigurationsH264.{Configuration, Says, Receives}
+use Rattle.h26x_answers.specs.ConfigurationsH264 as h264_said
+use Rattle.h26x_answers.specs.ConfigurationsH265 as h265_said
+use Rattle.h26x_answers.specs.ConfigurationsH266 as h266_said
 use Rattle.h26x_sdp.specs.H265Rows as h265_rows
 use Rattle.h26x_sdp.specs.H266Rows as h266_rows
 use Rattle.h26x_answers.specs.AnswersH265 as h265
@@ -73,7 +75,21 @@ OfEachAccepted rules takes Holds = (config : AnswerConfig) (declared own : Forma
     AreParameters rules.rows declared → AreParameters rules.rows own →
     is_accepted rules takes config declared own ≡ true → Holds declared own
 
--- of H.264 each configuration that a declared format says is one that ours says that it receives
-abbrev pub IsReceivedH264 : AnswerRules → FormatParameters → FormatParameters → Type 0
-IsReceivedH264 by declared own = (configuration : Configuration) → Says by declared configuration →
-    Receives by own configuration
+-- of H.264 each configuration that a declared format says is one that ours says that it receives, and
+-- in interleaved mode ours can put in order what it sends (RFC 6184, section 8.2.3)
+pub record IsReceivedH264 (by : AnswerRules) (declared own : FormatParameters) : Type 0 where
+  pub configuration : (it : h264_said.Configuration) → h264_said.Says by declared it →
+      h264_said.Receives by own it
+  pub order : h264_said.Reorders declared → h264_said.IsPutInOrder declared own
+
+-- the same of H.265 (RFC 7798, section 7.2.3), whose packets may bear decoding order numbers
+pub record IsReceivedH265 (by : AnswerRules) (declared own : FormatParameters) : Type 0 where
+  pub configuration : (it : h265_said.Configuration) → h265_said.Says by declared it →
+      h265_said.Receives by own it
+  pub order : h265_said.IsPutInOrder declared own
+
+-- and of H.266 (RFC 9328, section 7.3.3)
+pub record IsReceivedH266 (declared own : FormatParameters) : Type 0 where
+  pub configuration : (it : h266_said.Configuration) → h266_said.Says declared it →
+      h266_said.Receives own it
+  pub order : h266_said.IsPutInOrder declared own

@@ -8,7 +8,7 @@ ghost use Rattle.h26x_answers.specs.AnswerLaws.{IsCommonAnswered, IsAnswerCommon
 ghost use Rattle.h26x_answers.specs.Agreed as agreed;
 ghost use Rattle.h26x_answers.specs.Agreed.{IsSeenByBoth, AreWithinReceived};
 ghost use Rattle.h26x_answers.specs.DeclaredFormats as declared;
-ghost use Rattle.h26x_answers.specs.DeclaredFormats.{OfEachAccepted, IsReceivedH264};
+ghost use Rattle.h26x_answers.specs.DeclaredFormats.{OfEachAccepted, IsReceivedH264, IsReceivedH265, IsReceivedH266};
 ghost use Rattle.h26x_answers.specs.Answers.{Rules};
 ghost use Rattle.h26x_answers.specs.DirectionLaws.{IsByUsable, OfEachAnswerIn, OfEachDirected, IsWholeBothWays};
 ghost use Rattle.h26x_answers.specs.AnswersH264 as h264_answers;
@@ -183,9 +183,12 @@ pub fn agreed_streams_are_seen_by_both()
     ensures within { (by : AnswerRules) → AreWithinReceived by }
 {}
 
-/// Of a declared format of H.264 that one of ours receives, this one receives whatever it says (RFC
-/// 6184, section 8.2.3).
+/// Of a declared format that one of ours receives, this one receives whatever it says, and in the order
+/// in which its units come (RFC 6184, section 8.2.3; RFC 7798, section 7.2.3; RFC 9328, section 7.3.3).
 pub fn declared_formats_are_received()
-    ensures { (by : AnswerRules) → OfEachAccepted (h264_answers.rules by) (declared.h264_takes by)
-        (IsReceivedH264 by) }
+    ensures h264 { (by : AnswerRules) → OfEachAccepted (h264_answers.rules by)
+        (declared.h264_takes by) (IsReceivedH264 by) }
+    ensures h265 { (by : AnswerRules) → OfEachAccepted (h265_answers.rules by)
+        (declared.h265_takes by) (IsReceivedH265 by) }
+    ensures h266 { OfEachAccepted h266_answers.rules declared.h266_takes IsReceivedH266 }
 {}

@@ -5,6 +5,7 @@
 #![tactic(auto)]
 
 mod agreed;
+mod agreed_cases;
 mod answer;
 mod cases;
 pub mod choice_laws;
@@ -19,6 +20,7 @@ pub mod own_laws;
 mod term_cases;
 
 pub use agreed::{Agreed, AgreedSets, AgreedStream, CodecStreams, agreed_streams};
+pub use answer::h264::sets_of_level;
 pub use answer::{
     AnswerConfig, AnswerRules, CodecRules, Format, Role, Terms, answer_format, answer_to, own_fault,
 };

@@ -24,7 +24,8 @@ pub fn limits_at_their_edges()
 {}
 
 /// The 16 numbers of profiles of H.264 (Rec. ITU-T H.264, Annexes A and G to J; section 7.3.2.1.1 has
-/// all but Baseline, Main and Extended), some at level 3.1, and what the standard hasn't.
+/// all but Baseline, Main and Extended), some at level 3.1, and what the standard hasn't. Level 1b
+/// is 9 of High, and of Baseline 11 with constraint_set3_flag alone (A.3.1).
 pub fn profiles_of_h264()
     ensures count { length h264.profile_numbers ≡ 16 }
     ensures each { h264.profile_numbers ≡ 66 ∷ 77 ∷ 88 ∷ 100 ∷ 110 ∷ 122 ∷ 244 ∷ 44 ∷ 83 ∷ 86 ∷ 118 ∷
@@ -48,6 +49,21 @@ pub fn profiles_of_h264()
       profile_idc = 66;
       profile_iop = 0;
       level_idc = 33;
+    })) ≡ false }
+    ensures level_1b { h264.known_id (Some (record {
+      profile_idc = 66;
+      profile_iop = 0xf0;
+      level_idc = 11;
+    })) ≡ true }
+    ensures level_1b_of_high { h264.known_id (Some (record {
+      profile_idc = 100;
+      profile_iop = 0;
+      level_idc = 9;
+    })) ≡ true }
+    ensures level_1b_without_flag { h264.known_id (Some (record {
+      profile_idc = 66;
+      profile_iop = 0xe0;
+      level_idc = 9;
     })) ≡ false }
     ensures profile_fault { h264.fault_of_id (record { values = []; others = [] }) (Some (record {
       profile_idc = 67;

@@ -2,12 +2,16 @@ pub mod Answers
 pub mod Packets
 pub mod Profiles
 pub mod Sdp
+pub mod Streams
 pub mod Owned
 pub mod Lent
 pub mod AccessUnits
 pub mod Endpoints
 pub mod Rtp
+pub mod Parts
 pub mod Rtcp
 pub mod RtpReceivers
+pub mod RtpSenders
 pub mod PushAll
 pub mod ReceiveAll
+pub mod SoFar

@@ -2,7 +2,8 @@
 //!
 //! A handle is a struct of one pointer to an `Endpoint` of `h26x_endpoint`, a packetizer, a
 //! depacketizer, a receiver of packets with their sequence numbers or one of access units, of packets
-//! or of datagrams, of one codec. Each call states what it answers in the words of the payload formats.
+//! or of datagrams, of one codec, or a sender of datagrams. Each call states what it answers in the
+//! words of the payload formats.
 #![tactic(auto)]
 
 mod access_units;
@@ -12,6 +13,7 @@ mod every_unit;
 mod handle;
 mod paci;
 mod packets;
+mod parts;
 mod place;
 mod profiles;
 mod push_all;
@@ -22,8 +24,11 @@ mod rtcp;
 mod rtp;
 mod rtp_map;
 mod rtp_receiver;
+mod rtp_sender;
 mod sdp;
 mod sending;
 mod sequenced;
 mod shown;
+mod so_far;
+mod streams;
 mod units;

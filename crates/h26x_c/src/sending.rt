@@ -9,10 +9,11 @@ ghost use Rattle.h26x_codes.specs.Codes.{codec_or_code, may_have_donl, ok, out_o
 ghost use Rattle.h26x_codes.specs.Copies.{with_front, nth_packet, AreCopied};
 ghost use Rattle.h26x_c.specs.Endpoints.{Makes, HasPacketizer, WherePacketizer, OnceDone, WhereDonl};
 ghost use Rattle.h26x_handles.specs.PlacementAnswer.{AreCounted, IsPlacementAnswer};
-ghost use Rattle.h26x_handles.specs.States.{headed_packets, state_with_donl};
+ghost use Rattle.h26x_handles.specs.States.{state_with_donl, state_with_lowest_header};
 ghost use Rattle.std.specs.Option.{option_map};
 ghost use Rattle.h26x_handles.specs.Settings.{first_settings};
-ghost use Rattle.h26x_endpoint.specs.EndpointStates.{endpoint_packetizer_state, endpoint_packets, endpoint_codec, endpoint_headers, endpoint_settings, place_packetizer_state, place_packets, place_settings, endpoint_without_output};
+ghost use Rattle.h26x_handles.specs.declared.settings.SendingSettings.{SendingSettings};
+ghost use Rattle.h26x_endpoint.specs.EndpointStates.{endpoint_packetizer_state, endpoint_packets, endpoint_codec, endpoint_lowest_header, endpoint_settings, place_packetizer_state, place_packets, place_settings, endpoint_without_output};
 
 use crate::const_handle::ConstHandle;
 use crate::handle::Handle;
@@ -24,7 +25,6 @@ use h26x_codes::code::{
 use h26x_codes::copy::copy_where_room;
 use h26x_endpoint::endpoint::Endpoint;
 use h26x_handles::sending::SendingEndpoint;
-use h26x_handles::settings::SendingSettings;
 use std::alloc::Global;
 
 /// Makes a packetizer for which nothing waits.
@@ -86,7 +86,8 @@ pub extern "C" fn h26x_packetizer_set_numbers(p: &mut Handle, numbers: bool) -> 
     ensures none { WherePacketizer p.old.value
         (λ it. may_have_donl (endpoint_codec p.old.value) ≡ false → result ≡ not_of_this_codec) }
     ensures set { WhereDonl p.old.value
-        (λ c it. (result ≡ ok) × HasPacketizer p.new.value (state_with_donl c numbers it)) }
+        (λ c it. (result ≡ ok) × HasPacketizer p.new.value
+        (state_with_donl c numbers (endpoint_lowest_header p.old.value) it)) }
     ensures packets { endpoint_packets p.new.value ≡ endpoint_packets p.old.value }
     ensures settings { endpoint_settings p.new.value ≡ endpoint_settings p.old.value }
     ensures kept { result ≢ ok → p.new.value ≡ p.old.value }
@@ -133,18 +134,20 @@ pub extern "C" fn h26x_packetizer_set_max_size(p: &mut Handle, bytes: u16) -> u3
     }
 }
 
-/// Sets whether aggregation packets of H.265 get the header of their units (RFC 7798, 4.4.2). Those of
-/// H.266 have it in any case.
+/// Sets whether parameter sets that share a packet of H.265 have the header of their own (RFC 7798,
+/// 4.4.2). Those of H.266 have it in any case.
 #[unsafe(no_mangle)]
 pub extern "C" fn h26x_packetizer_set_lowest_header(p: &mut Handle, lowest: bool) -> u32
     ensures wrong { endpoint_packetizer_state p.old.value ≡ None → result ≡ wrong_end }
     ensures none { WherePacketizer p.old.value
         (λ it. may_have_donl (endpoint_codec p.old.value) ≡ false → result ≡ not_of_this_codec) }
     ensures set { WhereDonl p.old.value
-        (λ c it. (result ≡ ok) × (endpoint_settings p.new.value ≡ option_map
+        (λ c it. (result ≡ ok)
+        × HasPacketizer p.new.value (state_with_lowest_header c lowest it)) }
+    ensures settings { WhereDonl p.old.value
+        (λ c it. endpoint_settings p.new.value ≡ option_map
         (λ (s : SendingSettings). record s { lowest_header = lowest })
-        (endpoint_settings p.old.value))) }
-    ensures state { endpoint_packetizer_state p.new.value ≡ endpoint_packetizer_state p.old.value }
+        (endpoint_settings p.old.value)) }
     ensures codec { endpoint_codec p.new.value ≡ endpoint_codec p.old.value }
     ensures packets { endpoint_packets p.new.value ≡ endpoint_packets p.old.value }
     ensures kept { result ≢ ok → p.new.value ≡ p.old.value }
@@ -154,10 +157,7 @@ pub extern "C" fn h26x_packetizer_set_lowest_header(p: &mut Handle, lowest: bool
             if !may_have_donl(it.packetizer.codec()) {
                 return NOT_OF_THIS_CODEC;
             }
-            it.set(SendingSettings {
-                lowest_header: lowest,
-                ..it.settings()
-            });
+            it.with_lowest_header(lowest);
             OK
         }
         _ => WRONG_END,
@@ -178,8 +178,7 @@ pub extern "C" fn h26x_packetize(
     ensures free { WherePacketizer p.old.value
         (λ it. payload_has_no_effect it mtu payload.now ≡ true → result ≡ ok) }
     ensures packets { OnceDone p.old.value result
-        (λ it. endpoint_packets p.new.value ≡
-        headed_packets (endpoint_headers p.old.value) it mtu payload.now) }
+        (λ it. endpoint_packets p.new.value ≡ next_packets it mtu payload.now) }
     ensures after { OnceDone p.old.value result
         (λ it. HasPacketizer p.new.value (after_payload it mtu payload.now)) }
     ensures codec { endpoint_codec p.new.value ≡ endpoint_codec p.old.value }
@@ -295,8 +294,8 @@ pub extern "C" fn h26x_packetize_into(
 ) -> u32
     ensures wrong { endpoint_packetizer_state p.old.value ≡ None → result ≡ wrong_end }
     ensures answer { WherePacketizer p.old.value
-        (λ it. IsPlacementAnswer headroom (headed_packets (endpoint_headers p.old.value) it mtu
-        payload.now) to.old to.new ends.old ends.new result count.new size.new) }
+        (λ it. IsPlacementAnswer headroom (next_packets it mtu payload.now) to.old to.new ends.old
+        ends.new result count.new size.new) }
     ensures free { WherePacketizer p.old.value
         (λ it. payload_has_no_effect it mtu payload.now ≡ true → result ≢ out_of_memory) }
     ensures after { OnceDone p.old.value result

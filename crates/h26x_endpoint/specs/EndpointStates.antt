@@ -1,10 +1,12 @@
 -- What an endpoint is in the words of the payload formats: a packetizer with its packets, or a
 -- depacketizer or a receiver with what it wrote, or a receiver of access units, of packets or of
--- datagrams.
+-- datagrams, or a sender of datagrams.
 use Rattle.std.specs.Prelude.{ℕ, Bool, true, false, List, [], Option, Some, None}
 use Rattle.h26x_model.specs.Send.PacketizerState.{PacketizerState}
 use Rattle.h26x_model.specs.Receive.DepacketizerState.{DepacketizerState, Depacketization, depacketization}
+use Rattle.h26x_assembler.specs.AccessUnit.{OpenUnits}
 use Rattle.h26x_codec.specs.declared.codec.Codec.{Codec}
+use Rattle.h26x_codec.specs.declared.codec.Codec.TheVariants as c
 use Rattle.h26x_codec.specs.AnyPacketizer.{any_packetizer_state, any_packetizer_codec}
 use Rattle.h26x_receiver.specs.Sequenced.{SequencedDepacketization}
 use Rattle.h26x_codec.specs.AnyDepacketizer.{any_depacketizer_state, any_depacketizer_with_avc, any_depacketizer_codec, any_depacketizer_with_donl, any_depacketizer_with_run, fresh_any_depacketizer, any_depacketizer_showing, are_same_depacketizers, any_depacketizer_shown}
@@ -15,11 +17,12 @@ use Rattle.h26x_endpoint.specs.declared.endpoint.Endpoint.{Endpoint}
 use Rattle.h26x_endpoint.specs.declared.endpoint.Endpoint.TheVariants as e
 use Rattle.h26x_handles.specs.declared.settings.SendingSettings.{SendingSettings}
 use Rattle.h26x_packetizer.specs.declared.refusal.RefusedUnit.{RefusedUnit}
-use Rattle.h26x_handles.specs.States.{sending_units, sending_every_packets, sending_refusal, told_depacketizer_state, after_told_packet, headers_asked, receiver_at_work, after_receiver_packet, receiver_after_skip, receiver_run_len, fresh_receiver}
-use Rattle.h26x_handles.specs.UnitsState.{UnitsState, units_deadline, units_missing}
+use Rattle.h26x_handles.specs.States.{sending_units, sending_every_packets, sending_refusal, told_depacketizer_state, after_told_packet, receiver_at_work, after_receiver_packet, receiver_after_skip, receiver_run_len, fresh_receiver}
+use Rattle.h26x_handles.specs.UnitsState.{UnitsState, units_deadline, units_open, units_missing}
 use Rattle.h26x_handles.specs.AccessUnits.{units_state_of}
-use Rattle.h26x_handles.specs.RtpState.{RtpState, rtp_deadline}
+use Rattle.h26x_handles.specs.RtpState.{RtpState, rtp_deadline, rtp_open}
 use Rattle.h26x_handles.specs.RtpReceivers.{rtp_state_of}
+use Rattle.h26x_rtp_sender.specs.Sending.{RtpSending}
 use Rattle.h265_packets.specs.declared.payload.H265Payload.{H265Payload}
 use Rattle.h26x_handles.specs.Shown.{Part, any_depacketizer_parts}
 
@@ -28,10 +31,10 @@ abbrev pub endpoint_packetizer_state : Endpoint → Option PacketizerState
 endpoint_packetizer_state (e.Sending it) = Some (any_packetizer_state it.packetizer)
 endpoint_packetizer_state it = None
 
--- where its aggregates get the header of their units
-abbrev pub endpoint_headers : Endpoint → Option Bool
-endpoint_headers (e.Sending it) = headers_asked it
-endpoint_headers it = None
+-- whether its parameter sets that share a packet are set to have the header of their own
+abbrev pub endpoint_lowest_header : Endpoint → Bool
+endpoint_lowest_header (e.Sending it) = it.settings.lowest_header
+endpoint_lowest_header it = false
 
 -- its settings
 abbrev pub endpoint_settings : Endpoint → Option SendingSettings
@@ -115,12 +118,14 @@ endpoint_written (e.Receiving it) = it.written
 endpoint_written (e.Sequenced it) = it.written
 endpoint_written it = []
 
+-- its codec; a sender of datagrams has none, and any stands for it
 abbrev pub endpoint_codec : Endpoint → Codec
 endpoint_codec (e.Sending it) = any_packetizer_codec it.packetizer
 endpoint_codec (e.Receiving it) = any_depacketizer_codec it.depacketizer
 endpoint_codec (e.Sequenced it) = any_depacketizer_codec it.depacketizer
 endpoint_codec (e.AccessUnits it) = it.codec
 endpoint_codec (e.RtpReceiver it) = it.codec
+endpoint_codec (e.RtpSender it) = c.H264
 endpoint_codec (e.Sdp it) = sdp_codec it
 
 abbrev pub is_sending : Endpoint → Bool
@@ -238,6 +243,11 @@ abbrev pub endpoint_deadline : Endpoint → Option ℕ
 endpoint_deadline (e.AccessUnits it) = units_deadline (units_state_of it)
 endpoint_deadline it = None
 
+-- the access unit that is open, as far as it came
+abbrev pub endpoint_open : Endpoint → Option OpenUnits
+endpoint_open (e.AccessUnits it) = units_open (units_state_of it)
+endpoint_open it = None
+
 -- the numbers that are missing before packets that wait
 abbrev pub endpoint_missing : Endpoint → List ℕ
 endpoint_missing (e.AccessUnits it) = units_missing (units_state_of it)
@@ -263,10 +273,30 @@ abbrev pub endpoint_rtp_deadline : Endpoint → Option ℕ
 endpoint_rtp_deadline (e.RtpReceiver it) = rtp_deadline (rtp_state_of it)
 endpoint_rtp_deadline it = None
 
+-- the access unit that is open, as far as it came
+abbrev pub endpoint_rtp_open : Endpoint → Option OpenUnits
+endpoint_rtp_open (e.RtpReceiver it) = rtp_open (rtp_state_of it)
+endpoint_rtp_open it = None
+
 -- what stands in a place into which an endpoint was put or not
 abbrev pub place_rtp : Option Endpoint → Option RtpState
 place_rtp None = None
 place_rtp (Some it) = endpoint_rtp it
+
+-- whether it sends datagrams
+abbrev pub is_rtp_sender : Endpoint → Bool
+is_rtp_sender (e.RtpSender it) = true
+is_rtp_sender it = false
+
+-- what it is then to contracts
+abbrev pub endpoint_rtp_sending : Endpoint → Option RtpSending
+endpoint_rtp_sending (e.RtpSender it) = Some it
+endpoint_rtp_sending it = None
+
+-- what stands in a place into which an endpoint was put or not
+abbrev pub place_rtp_sending : Option Endpoint → Option RtpSending
+place_rtp_sending None = None
+place_rtp_sending (Some it) = endpoint_rtp_sending it
 
 -- whether it is a depacketizer or a receiver of packets, whose packets can be shown
 abbrev pub shows_packets : Endpoint → Bool

@@ -5,6 +5,7 @@ use h26x_handles::receiving::ReceivingEndpoint;
 use h26x_handles::rtp_receiver::RtpReceiverEndpoint;
 use h26x_handles::sending::SendingEndpoint;
 use h26x_handles::sequenced::SequencedEndpoint;
+use h26x_rtp_sender::RtpSender;
 use h26x_sdp_handles::sdp::SdpEndpoint;
 
 /// One endpoint of a stream.
@@ -20,6 +21,8 @@ pub enum Endpoint {
     AccessUnits(AccessUnitEndpoint),
     /// It receives access units, of datagrams as a socket brings them.
     RtpReceiver(RtpReceiverEndpoint),
+    /// It sends access units, as datagrams.
+    RtpSender(RtpSender),
     /// Format parameters of SDP.
     Sdp(SdpEndpoint),
 }

@@ -45,8 +45,15 @@ pub fn send_frame(alloc: Global, frame: &[u8]) -> Result<(), PacketError> {
     Ok(())
 }
 
-/// The packets of a frame, of which sets in one packet have the header of these sets.
+/// The packets of a frame by a packetizer that gives sets in one packet the header of these sets.
 pub fn packets_of_frame(alloc: Global, frame: &[u8]) -> Result<Vec<Vec<u8>>, PacketError> {
+    let mut packetizer = H265Packetizer::new(alloc);
+    packetizer.with_lowest_header(true);
+    packetizer.packetize(1200, frame)
+}
+
+/// The same where the packets are made already.
+pub fn packets_made_before(alloc: Global, frame: &[u8]) -> Result<Vec<Vec<u8>>, PacketError> {
     let mut packets = H265Packetizer::new(alloc).packetize(1200, frame)?;
     for packet in packets.iter_mut() {
         set_lowest_header(false, packet);

@@ -1,7 +1,5 @@
 pub mod AccessUnitLemmas
-pub mod HeaderLemmas
 pub mod MemoryLemmas
-pub mod NumberLemmas
 pub mod PayloadLemmas
 pub mod PushAllLemmas
 pub mod ReceiveAllLemmas

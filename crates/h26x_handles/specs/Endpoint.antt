@@ -1,15 +1,8 @@
 -- What stands behind a handle.
-use Rattle.std.specs.Prelude.{ℕ, Bool, false, List, Option}
+use Rattle.std.specs.Prelude.{ℕ, List, Option}
 use Rattle.h26x_handles.specs.declared.settings.SendingSettings.{SendingSettings}
 use Rattle.h26x_codec.specs.declared.any_packetizer.AnyPacketizer.{AnyPacketizer}
-use Rattle.h26x_codec.specs.declared.any_packetizer.AnyPacketizer.TheVariants as s
 use Rattle.h26x_codec.specs.declared.any_depacketizer.AnyDepacketizer.{AnyDepacketizer}
-
--- whether packets of a packetizer bear decoding order numbers
-abbrev pub has_numbers : AnyPacketizer → Bool
-has_numbers (s.H264 it) = false
-has_numbers (s.H265 it) = it.codec.has_donl
-has_numbers (s.H266 it) = it.codec.has_donl
 
 -- a packetizer, the packets of its last call, and its settings
 pub record SendingEndpoint : Type 0 where

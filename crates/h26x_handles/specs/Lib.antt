@@ -1,4 +1,3 @@
-pub mod Headers
 pub mod Settings
 pub mod Endpoint
 pub mod States

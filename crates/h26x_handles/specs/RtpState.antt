@@ -1,9 +1,10 @@
 -- A receiver of datagrams behind a handle, and the access unit that had no room where it was to be
 -- written (ours).
-use Rattle.std.specs.Prelude.{◌≡◌, ℕ, Bool, if◌then◌else◌, List, Option, Some, None, Result, MatchOption}
+use Rattle.std.specs.Prelude.{◌≡◌, ℕ, Bool, if◌then◌else◌, List, Option, Some, None, is_some, Result, MatchOption}
 use Rattle.h26x_access_units.specs.declared.config.AccessUnitConfig.{AccessUnitConfig}
 use Rattle.h26x_access_units.specs.ReceivedAccessUnit.{ReceivedAccessUnitValue}
-use Rattle.h26x_access_units.specs.Reception.{next_deadline}
+use Rattle.h26x_access_units.specs.Reception.{next_deadline, open_units}
+use Rattle.h26x_assembler.specs.AccessUnit.{OpenUnits}
 use Rattle.h26x_codec.specs.Codec.{codec_format}
 use Rattle.h26x_codec.specs.declared.codec.Codec.{Codec}
 use Rattle.h26x_rtp_receiver.specs.RtpReception.{RtpReception, fresh_rtp, followed_rtp, finished_rtp, rtp_with_settings, IsRtpPush, IsRtpNext, IsRtpNextInPart}
@@ -81,6 +82,10 @@ pub record IsRtpOutOfMemory (now : ℕ) (it new : RtpState) : Type 0 where
 -- when it is to be asked again at the latest, if packets wait
 abbrev pub rtp_deadline : RtpState → Option ℕ
 rtp_deadline it = next_deadline it.reception.reception
+
+-- the access unit that is open, as far as it came, where none that ended waits to be given out
+abbrev pub rtp_open : RtpState → Option OpenUnits
+rtp_open it = if is_some it.left then None else open_units it.reception.reception
 
 -- at the end of the stream: all that waits is due
 abbrev pub rtp_state_finished : RtpState → RtpState

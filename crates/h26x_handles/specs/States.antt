@@ -1,9 +1,9 @@
 -- What stands behind a handle in the words of the payload formats: a packetizer with its packets, or
 -- a depacketizer or a receiver of packets with their sequence numbers, with what it wrote.
 use Rattle.std.specs.Prelude.{◌≡◌, ℕ, Bool, if◌then◌else◌, List, [], ◌∷◌, Option, None}
-use Rattle.h26x_model.specs.Send.PacketizerState.{PacketizerState, next_packets}
+use Rattle.h26x_model.specs.Send.PacketizerState.{PacketizerState}
 use Rattle.h26x_model.specs.Receive.DepacketizerState.{DepacketizerState, Depacketization, depacketization, after_packets}
-use Rattle.h26x_codec.specs.Codec.{codec_format}
+use Rattle.h26x_codec.specs.Codec.{codec_headed_format}
 use Rattle.h26x_codec.specs.declared.codec.Codec.{Codec}
 use Rattle.std.specs.Option.{option_map}
 use Rattle.h26x_codec.specs.SentUnits.{sent_units, refused_among_all}
@@ -15,16 +15,17 @@ use Rattle.h26x_receiver.specs.Sequenced.{SequencedDepacketization, sequenced_de
 use Rattle.h26x_codec.specs.AnyDepacketizer.{any_depacketizer_state, any_depacketizer_with_avc, any_depacketizer_with_run, fresh_any_depacketizer, any_depacketizer_showing}
 use Rattle.h26x_codec.specs.declared.any_depacketizer.AnyDepacketizer.{AnyDepacketizer}
 use Rattle.h26x_handles.specs.Endpoint.{SendingEndpoint, SequencedEndpoint}
-use Rattle.h26x_handles.specs.Headers.{headers_wanted, under_headers}
 
--- the packets of a payload under headers that are asked for
-abbrev pub headed_packets : Option Bool → PacketizerState → ℕ → List ℕ → List (List ℕ)
-headed_packets headers it mtu payload = under_headers headers (next_packets it mtu payload)
+-- a packetizer that has decoding order numbers, from 0, or none, and the header of parameter sets
+-- themselves where they share a packet, or not
+abbrev pub state_with_donl : Codec → Bool → Bool → PacketizerState → PacketizerState
+state_with_donl codec has_donl lowest_header it =
+    record it { format = codec_headed_format codec has_donl lowest_header; next_don = 0 }
 
--- a packetizer that has decoding order numbers, from 0, or none
-abbrev pub state_with_donl : Codec → Bool → PacketizerState → PacketizerState
-state_with_donl codec has_donl it =
-    record it { format = codec_format codec has_donl; next_don = 0 }
+-- a packetizer that has that header, or not
+abbrev pub state_with_lowest_header : Codec → Bool → PacketizerState → PacketizerState
+state_with_lowest_header codec lowest_header it =
+    record it { format = codec_headed_format codec it.format.has_donl lowest_header }
 
 -- a depacketizer that is told with a packet to write units behind lengths or behind start codes
 abbrev pub told_depacketizer_state : Bool → AnyDepacketizer → DepacketizerState
@@ -48,15 +49,6 @@ IsShowing packet old new = any_depacketizer_with_run None new
 -- what a packetizer is that keeps the packets of its last call
 abbrev pub sending_state : SendingEndpoint → PacketizerState
 sending_state it = any_packetizer_state it.packetizer
-
--- where aggregates get the header of their units: whether packets bear decoding order numbers
-abbrev pub headers_asked : SendingEndpoint → Option Bool
-headers_asked it = headers_wanted it.settings.lowest_header (any_packetizer_codec it.packetizer)
-    (any_packetizer_state it.packetizer).format.has_donl
-
--- the packets that it makes of a payload
-abbrev pub sending_packets : SendingEndpoint → ℕ → List ℕ → List (List ℕ)
-sending_packets it mtu payload = headed_packets (headers_asked it) (sending_state it) mtu payload
 
 -- the units of an access unit in Annex B form that it sends where every unit goes
 abbrev pub sending_units : SendingEndpoint → List ℕ → List (List ℕ)

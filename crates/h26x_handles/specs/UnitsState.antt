@@ -1,6 +1,6 @@
 -- A receiver of access units behind a handle, and the access unit that had no room where it was to be
 -- written (ours).
-use Rattle.std.specs.Prelude.{◌≡◌, ◌⊎◌, ℕ, ◌^◌, ◌==◌, ◌||◌, ◌&&◌, nat_le, nat_lt, Bool, true, if◌then◌else◌, List, [], length, take, Option, Some, None, Result, Ok, Err, MatchOption}
+use Rattle.std.specs.Prelude.{◌≡◌, ◌⊎◌, ℕ, ◌^◌, ◌==◌, ◌||◌, ◌&&◌, nat_le, nat_lt, Bool, true, if◌then◌else◌, List, [], length, take, Option, Some, None, is_some, Result, Ok, Err, MatchOption}
 use Rattle.h26x_access_units.specs.declared.config.AccessUnitConfig.{AccessUnitConfig}
 use Rattle.h26x_access_units.specs.declared.pushed.Pushed.{Pushed}
 use Rattle.h26x_access_units.specs.declared.pushed.Pushed.TheVariants as pushes
@@ -11,7 +11,8 @@ use Rattle.h26x_access_units.specs.declared.nacks.Nack.{Nack}
 use Rattle.h26x_access_units.specs.declared.nacks.NackTimes.{NackTimes}
 use Rattle.h26x_access_units.specs.Nacks.{nacks_now, numbers_due, nacks_asked}
 use Rattle.h26x_access_units.specs.ReceivedAccessUnit.{ReceivedAccessUnitValue}
-use Rattle.h26x_access_units.specs.Reception.{Reception, fresh_reception, begun_reception, reception_answer, restarted, with_settings, IsPushed, IsNext, IsDrainedInPart}
+use Rattle.h26x_access_units.specs.Reception.{Reception, open_units, fresh_reception, begun_reception, reception_answer, restarted, with_settings, IsPushed, IsNext, IsDrainedInPart}
+use Rattle.h26x_assembler.specs.AccessUnit.{OpenUnits}
 use Rattle.h26x_codec.specs.Codec.{codec_format}
 use Rattle.h26x_codec.specs.declared.codec.Codec.{Codec}
 use Rattle.h26x_reorder.specs.Rtp.{RtpBody}
@@ -152,6 +153,10 @@ next_numbers (answers.Written unit) told = (ok, unit)
 abbrev pub units_deadline : UnitsState → Option ℕ
 units_deadline it =
     deadline_of (longest_wait it.reception.waiting) it.reception.waiting.arrivals
+
+-- the access unit that is open, as far as it came, where none that ended waits to be given out
+abbrev pub units_open : UnitsState → Option OpenUnits
+units_open it = if is_some it.left then None else open_units it.reception
 
 -- the numbers that are missing before packets that wait
 abbrev pub units_missing : UnitsState → List ℕ

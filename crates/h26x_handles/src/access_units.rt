@@ -2,15 +2,18 @@
 //! room where it was to be written.
 
 ghost use Rattle.std.specs.Prelude.{◌≡◌, ◌<◌, ◌≤◌, ◌^◌, [], false, None, Err, IfOk, OnOk, OnErr, length};
+ghost use Rattle.std.specs.Option.{option_map};
+ghost use Rattle.h26x_assembler.specs.AccessUnit.{units_so_far_value};
 ghost use Rattle.h26x_access_units.specs.ReceivedAccessUnit.{received_unit_value};
 ghost use Rattle.h26x_reorder.specs.Rtp.{rtp_body};
-ghost use Rattle.h26x_handles.specs.UnitsState.{units_codec_or_code, fresh_access_units, pushed_numbers, unit_told, next_answer, buffer_with_unit, unit_without_room, units_push_answer, IsUnitsPushed, IsUnitGiven, IsOutOfMemory, next_numbers, units_deadline, units_missing, units_nacks, units_nacked, is_begun_in_time, units_begun, units_finished, units_restarted, is_window, units_with_settings};
+ghost use Rattle.h26x_handles.specs.UnitsState.{units_open, units_codec_or_code, fresh_access_units, pushed_numbers, unit_told, next_answer, buffer_with_unit, unit_without_room, units_push_answer, IsUnitsPushed, IsUnitGiven, IsOutOfMemory, next_numbers, units_deadline, units_missing, units_nacks, units_nacked, is_begun_in_time, units_begun, units_finished, units_restarted, is_window, units_with_settings};
 ghost use Rattle.h26x_codes.specs.Copies.{with_first};
 
 use h26x_access_units::{
     AccessUnitConfig, AccessUnitReceiver, Counts, NackTimes, Nacks, Pushed, ReceivedAccessUnit,
     Receives,
 };
+use h26x_assembler::UnitsSoFar;
 use h26x_codec::{AnyPayloadDepacketizer, Codec};
 use h26x_codes::code::{NO_ROOM, NOTHING_YET, OK, OUT_OF_RANGE, codec_wanted, number_of};
 use h26x_codes::copy::{copy_first, copy_where_room};
@@ -250,6 +253,16 @@ impl AccessUnitEndpoint {
         ensures { result ≡ units_deadline (units_state_of self.now) }
     {
         self.receiver.deadline()
+    }
+
+    /// What came whole so far of the access unit that is open.
+    pub fn units_so_far(&self) -> Option<UnitsSoFar<'_>>
+        ensures { option_map units_so_far_value result ≡ units_open (units_state_of self.now) }
+    {
+        if self.left.is_some() {
+            return None;
+        }
+        self.receiver.units_so_far()
     }
 
     /// Copies the numbers that are missing before packets that wait, in order, as many as there is room

@@ -7,7 +7,6 @@
 pub mod access_units;
 pub mod cases;
 mod every_unit;
-pub mod headers;
 pub mod payloads;
 pub mod push_all;
 pub mod receive_all;

@@ -2,15 +2,18 @@
 //! room where it was to be written.
 
 ghost use Rattle.std.specs.Prelude.{◌≡◌, ◌<◌, ◌≤◌, ◌^◌, None, Err, IfOk, OnOk, OnErr, length};
+ghost use Rattle.std.specs.Option.{option_map};
+ghost use Rattle.h26x_assembler.specs.AccessUnit.{units_so_far_value};
 ghost use Rattle.h26x_access_units.specs.ReceivedAccessUnit.{received_unit_value};
 ghost use Rattle.h26x_rtp_receiver.specs.Keyframes.{is_keyframe_due};
 ghost use Rattle.h26x_rtp_receiver.specs.RtpReception.{nacks_due, after_nacks, after_keyframe, report_of, after_report_of};
 ghost use Rattle.h26x_codes.specs.Copies.{with_first};
 ghost use Rattle.h26x_handles.specs.UnitsState.{is_window, next_answer, buffer_with_unit, unit_without_room};
-ghost use Rattle.h26x_handles.specs.RtpState.{with_rtp_reception, fresh_rtp_state, rtp_state_with_settings, rtp_state_followed, rtp_state_finished, rtp_deadline, IsDatagramPushed, IsRtpUnitGiven, IsRtpOutOfMemory};
+ghost use Rattle.h26x_handles.specs.RtpState.{with_rtp_reception, fresh_rtp_state, rtp_state_with_settings, rtp_state_followed, rtp_state_finished, rtp_deadline, rtp_open, IsDatagramPushed, IsRtpUnitGiven, IsRtpOutOfMemory};
 
 use crate::access_units::{NextAnswer, told_of};
 use h26x_access_units::{AccessUnitConfig, Counts, NackTimes, ReceivedAccessUnit};
+use h26x_assembler::UnitsSoFar;
 use h26x_codec::{AnyPayloadDepacketizer, Codec};
 use h26x_codes::copy::{copy_first, copy_where_room};
 use h26x_core::PacketError;
@@ -169,6 +172,16 @@ impl RtpReceiverEndpoint {
         ensures { result ≡ rtp_deadline (rtp_state_of self.now) }
     {
         self.receiver.deadline()
+    }
+
+    /// What came whole so far of the access unit that is open.
+    pub fn units_so_far(&self) -> Option<UnitsSoFar<'_>>
+        ensures { option_map units_so_far_value result ≡ rtp_open (rtp_state_of self.now) }
+    {
+        if self.left.is_some() {
+            return None;
+        }
+        self.receiver.units_so_far()
     }
 
     /// Copies the missing numbers that are to be asked for at this tick, in order, as many as there is

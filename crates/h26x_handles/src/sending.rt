@@ -2,18 +2,16 @@
 
 ghost use Rattle.std.specs.Prelude.{◌≡◌, ◌≤◌, [], Err, true, false, IfOk, OnOk, OnErr, IsOk, length, drop};
 ghost use Rattle.std.specs.List.{concat};
-ghost use Rattle.h26x_model.specs.Send.PacketizerState.{after_payload, payload_has_no_effect, one_unit_items, one_unit_packets, after_one_unit};
+ghost use Rattle.h26x_model.specs.Send.PacketizerState.{next_packets, after_payload, payload_has_no_effect, one_unit_items, one_unit_packets, after_one_unit};
 ghost use Rattle.h26x_packetizer.specs.Placement.{IsPlacement, is_placed};
 ghost use Rattle.h26x_codec.specs.Codec.{codec_format, fresh_packetizer_state};
-ghost use Rattle.h26x_codec.specs.AnyPacketizer.{any_packetizer_codec, any_packetizer_with_donl, any_packetizer_with_max_packet_size, IsBehindPlaced};
+ghost use Rattle.h26x_codec.specs.AnyPacketizer.{any_packetizer_codec, any_packetizer_with_donl, any_packetizer_with_lowest_header, any_packetizer_with_max_packet_size, IsBehindPlaced};
 ghost use Rattle.h26x_handles.specs.Settings.{first_settings};
-ghost use Rattle.h26x_handles.specs.States.{sending_state, sending_packets, headers_asked};
+ghost use Rattle.h26x_handles.specs.States.{sending_state};
 ghost use Rattle.h26x_codes.specs.Copies.{nth_packet, AreCopied};
 
-use crate::headers::{headers_wanted, set_headers, set_placed_headers};
 use crate::settings::SendingSettings;
 use h26x_codec::{AnyPacketizer, Codec};
-use h26x_codes::code::may_have_donl;
 use h26x_codes::copy::{bytes_from, copy_packets};
 use h26x_core::PacketError;
 use h26x_packetizer::{PacketBuffer, Placement};
@@ -26,8 +24,6 @@ use std::mem;
 pub struct SendingEndpoint {
     /// The packetizer.
     pub packetizer: AnyPacketizer,
-    // As the packetizer has it.
-    has_donl: bool,
     pub(crate) settings: SendingSettings,
     pub(crate) packets: PacketBuffer,
     // Where a call writes: the packets of before stay until it is carried out.
@@ -36,7 +32,7 @@ pub struct SendingEndpoint {
 
 impl Model for SendingEndpoint {
     ghost use Rattle.std.specs.Prelude.{◌≡◌};
-    ghost use Rattle.h26x_handles.specs.Endpoint.{SendingEndpoint, has_numbers};
+    ghost use Rattle.h26x_handles.specs.Endpoint.{SendingEndpoint};
 
     ghost Value = { SendingEndpoint };
 
@@ -46,8 +42,7 @@ impl Model for SendingEndpoint {
       settings = it.settings;
     } };
 
-    ghost invariant = { λ it. (has_numbers it.packetizer ≡ it.has_donl)
-        × ((it.packets.headroom ≡ 0) × (it.spare.headroom ≡ 0)) };
+    ghost invariant = { λ it. (it.packets.headroom ≡ 0) × (it.spare.headroom ≡ 0) };
 }
 
 impl SendingEndpoint {
@@ -61,7 +56,6 @@ impl SendingEndpoint {
     {
         SendingEndpoint {
             packetizer: AnyPacketizer::new(alloc, codec, has_donl),
-            has_donl: has_donl && may_have_donl(codec),
             settings: SendingSettings::new(),
             packets: PacketBuffer::new(alloc, 0),
             spare: PacketBuffer::new(alloc, 0),
@@ -77,7 +71,6 @@ impl SendingEndpoint {
     {
         Ok(SendingEndpoint {
             packetizer: self.packetizer.clone()?,
-            has_donl: self.has_donl,
             settings: self.settings,
             packets: PacketBuffer::new(alloc, 0),
             spare: PacketBuffer::new(alloc, 0),
@@ -87,11 +80,25 @@ impl SendingEndpoint {
     /// Turns numbers on, from 0, or off; that of H.264 stays as it is.
     pub fn with_donl(&mut self, has_donl: bool)
         ensures { self.new ≡ record self.old {
-          packetizer = any_packetizer_with_donl has_donl self.old.packetizer;
+          packetizer = any_packetizer_with_lowest_header self.old.settings.lowest_header
+              (any_packetizer_with_donl has_donl self.old.packetizer);
         } }
     {
         self.packetizer.with_donl(has_donl);
-        self.has_donl = has_donl && may_have_donl(self.packetizer.codec());
+        self.packetizer
+            .with_lowest_header(self.settings.lowest_header);
+    }
+
+    /// Sets whether parameter sets that share a packet of H.265 have the header of their own (RFC 7798,
+    /// 4.4.2).
+    pub fn with_lowest_header(&mut self, lowest_header: bool)
+        ensures { self.new ≡ record self.old {
+          packetizer = any_packetizer_with_lowest_header lowest_header self.old.packetizer;
+          settings = record self.old.settings { lowest_header = lowest_header };
+        } }
+    {
+        self.packetizer.with_lowest_header(lowest_header);
+        self.settings.lowest_header = lowest_header;
     }
 
     /// Sets the largest packet size, in bytes; that of H.264 stays as it is.
@@ -118,21 +125,10 @@ impl SendingEndpoint {
         self.settings = settings;
     }
 
-    /// Where aggregates get the header of their units: whether packets bear decoding order numbers.
-    fn headers(&self) -> Option<bool>
-        ensures { result ≡ headers_asked self.now }
-    {
-        headers_wanted(
-            self.settings.lowest_header,
-            self.packetizer.codec(),
-            self.has_donl,
-        )
-    }
-
     /// Makes the packets of a payload, which take the place of the last call's.
     pub fn packetize(&mut self, mtu: usize, payload: &[u8]) -> Result<(), PacketError>
         ensures packets { OnOk result (self.new.packets
-            ≡ sending_packets self.old mtu payload.now) }
+            ≡ next_packets (sending_state self.old) mtu payload.now) }
         ensures after { OnOk result (sending_state self.new
             ≡ after_payload (sending_state self.old) mtu payload.now) }
         ensures codec { any_packetizer_codec self.new.packetizer
@@ -143,11 +139,9 @@ impl SendingEndpoint {
         ensures free { payload_has_no_effect (sending_state self.old) mtu payload.now ≡ true →
             IsOk result }
     {
-        let headers = self.headers();
         self.spare.clear();
         self.packetizer
             .packetize_into(mtu, payload, &mut self.spare)?;
-        set_headers(headers, &mut self.spare);
         mem::swap(&mut self.packets, &mut self.spare);
         Ok(())
     }
@@ -184,7 +178,8 @@ impl SendingEndpoint {
         ends: &mut [usize],
     ) -> Result<Placement, PacketError>
         ensures packets { IfOk result (λ it. IsPlacement headroom
-            (sending_packets self.old mtu payload.now) to.old to.new ends.old ends.new it) }
+            (next_packets (sending_state self.old) mtu payload.now)
+            to.old to.new ends.old ends.new it) }
         ensures after { IfOk result (λ it. IsBehindPlaced it
             (λ s. after_payload s mtu payload.now) self.old.packetizer self.new.packetizer) }
         ensures codec { any_packetizer_codec self.new.packetizer
@@ -198,12 +193,8 @@ impl SendingEndpoint {
         ensures free { payload_has_no_effect (sending_state self.old) mtu payload.now ≡ true →
             IsOk result }
     {
-        let headers = self.headers();
-        let made = self
-            .packetizer
-            .packetize_to_memory(mtu, payload, headroom, to, ends)?;
-        set_placed_headers(headers, made, headroom, to, ends);
-        Ok(made)
+        self.packetizer
+            .packetize_to_memory(mtu, payload, headroom, to, ends)
     }
 
     /// Copies the packets of one unit as it is straight to memory where they fit; else nothing is

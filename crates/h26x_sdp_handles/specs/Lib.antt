@@ -5,3 +5,5 @@ pub mod KeptUnits
 pub mod ChangedParameters
 pub mod AnswerOptions
 pub mod Repair
+pub mod Streams
+pub mod LevelUnits

@@ -16,6 +16,8 @@ use Rattle.h26x_sdp.specs.declared.error.CapabilityPointsError.{CapabilityPoints
 use Rattle.h26x_sdp.specs.declared.error.CapabilityPointsError.TheVariants as b
 use Rattle.h26x_sdp.specs.declared.error.ConstraintsError.{ConstraintsError}
 use Rattle.h26x_sdp.specs.declared.error.ConstraintsError.TheVariants as t
+use Rattle.h26x_sdp.specs.declared.error.LevelSetsError.{LevelSetsError}
+use Rattle.h26x_sdp.specs.declared.error.LevelSetsError.TheVariants as l
 use Rattle.h26x_sdp.specs.declared.error.RtxError.{RtxError}
 use Rattle.h26x_sdp.specs.declared.error.RtxError.TheVariants as x
 use Rattle.h26x_answers.specs.declared.fault.FormatFault.{FormatFault}
@@ -75,6 +77,13 @@ units_refused (u.Empty place) = record { code = 30; place = place }
 units_refused (u.OtherType place) = record { code = 31; place = place }
 units_refused (u.StartCode place) = record { code = 32; place = place }
 units_refused u.OutOfMemory = refused_with out_of_memory
+
+-- why a text is no parameter sets of levels, and the place of the level that it is of
+abbrev pub level_sets_refused : LevelSetsError → Refused
+level_sets_refused (l.NotHexadecimal place) = record { code = 23; place = place }
+level_sets_refused (l.NoSets place) = record { code = 74; place = place }
+level_sets_refused (l.Sets place fault) = record { code = (units_refused fault).code; place = place }
+level_sets_refused l.OutOfMemory = refused_with out_of_memory
 
 -- a code that is of no capability point
 abbrev pub point_refused_with : ℕ → PointRefused

@@ -7,7 +7,7 @@ use h26x_answers::FormatFault;
 use h26x_codec::Codec;
 use h26x_codes::code::OUT_OF_MEMORY;
 use h26x_fmtp::{Encoding, Fault, ParametersError, RtpMapError, UnitsError};
-use h26x_sdp::{CapabilityPointsError, ConstraintsError, RtxError};
+use h26x_sdp::{CapabilityPointsError, ConstraintsError, LevelSetsError, RtxError};
 use h26x_stream_parameters::StreamError;
 
 /// A brace of the text isn't closed.
@@ -102,6 +102,21 @@ pub fn of_units(error: UnitsError) -> Refused
         UnitsError::OtherType { place } => Refused { code: 31, place },
         UnitsError::StartCode { place } => Refused { code: 32, place },
         UnitsError::OutOfMemory => refused_with(OUT_OF_MEMORY),
+    }
+}
+
+/// Why a text is no parameter sets of levels, and the place of the level that it is of.
+pub fn of_level_sets(error: LevelSetsError) -> Refused
+    ensures { result ≡ spec.level_sets_refused error }
+{
+    match error {
+        LevelSetsError::NotHexadecimal { place } => Refused { code: 23, place },
+        LevelSetsError::NoSets { place } => Refused { code: 74, place },
+        LevelSetsError::Sets { place, fault } => Refused {
+            code: of_units(fault).code,
+            place,
+        },
+        LevelSetsError::OutOfMemory => refused_with(OUT_OF_MEMORY),
     }
 }
 

@@ -1,6 +1,6 @@
 //! Answers to offers of H.264 (RFC 6184, section 8.2.2).
 
-ghost use Rattle.std.specs.Prelude.{◌≡◌, IfOk};
+ghost use Rattle.std.specs.Prelude.{◌≡◌, ◌==◌, IfOk, find};
 ghost use Rattle.std.specs.Option.{option_map, option_or};
 ghost use Rattle.h26x_profile.specs.H264 as table;
 ghost use Rattle.h26x_fmtp.specs.Reading.{value_at};
@@ -14,7 +14,7 @@ use crate::answer::{AnswerRules, CodecRules, Role, Terms, copy_of, holds, own_h2
 use crate::direction::Usage;
 use crate::fault::FormatFault;
 use h26x_profile::{H264LevelIdc, H264Profile, H264ProfileIdc, H264ProfileLevel};
-use h26x_sdp::{H264Parameter, H264Parameters};
+use h26x_sdp::{H264Parameter, H264Parameters, LevelSets};
 use hex::FromHex;
 use std::alloc::{AllocError, Global};
 
@@ -143,6 +143,14 @@ impl ProfileLevelId {
             || (self.has_level_flag() && (self.level_idc == 11 && self.profile_iop >> 4 & 1 == 1))
     }
 
+    /// Whether 9 stands for level 1b where the level has a flag: the standard names it so of the other
+    /// profiles alone (Rec. ITU-T H.264, A.3.1 and A.3.2).
+    pub(crate) fn is_1b_without_flag(self) -> bool
+        ensures { result ≡ spec.is_1b_without_flag self }
+    {
+        self.has_level_flag() && self.level_idc == 9
+    }
+
     /// Twice level_idc, by which levels are ordered; level 1b stands between 1 and 1.1.
     pub(crate) fn level_rank(self) -> u16
         ensures { result ≡ spec.level_rank self }
@@ -212,6 +220,30 @@ impl ProfileLevelId {
             ..self
         }
     }
+}
+
+/// The level of three bytes as in `profile-level-id`: twice `level_idc`, and 21 for level 1b.
+fn level_of_id(id: [u8; 3]) -> u64
+    ensures { result ≡ spec.level_of_id id }
+{
+    let [profile_idc, profile_iop, level_idc] = id;
+    let id = ProfileLevelId {
+        profile_idc,
+        profile_iop,
+        level_idc,
+    };
+    u64::from(id.level_rank())
+}
+
+/// The parameter sets of a level among those of `sprop-level-parameter-sets`, the level as
+/// [`AgreedStream`](crate::AgreedStream) has it: the first of that level (RFC 6184, section 8.1).
+pub fn sets_of_level(levels: &[LevelSets], level: u64) -> Option<&LevelSets>
+    ensures { option_map (λ it. it.now) result
+        ≡ find (λ it. spec.level_of_id it.profile_level_id == level) levels.now }
+{
+    levels
+        .iter()
+        .find(|it| level_of_id(it.profile_level_id) == level)
 }
 
 /// The profile that a profile_idc and its flags have in table 5 of RFC 6184.
@@ -418,13 +450,14 @@ fn terms_at(
     ensures { IfOk result (λ it. terms_view it ≡ spec.terms_at offered.now asymmetric a b level) }
 {
     let back = rank_back(offered, asymmetric, a, level);
+    let is_ours = a.same_profile(b);
     Ok(Terms {
         level: answer_id(alloc, offered, a, level)?,
         highest: None,
         asymmetric,
         reorders: is_interleaved(offered),
-        sets: may_tell_sets(offered, back, level.level_rank(), b.level_rank()),
-        level_sets: with_level_sets(offered, back, level.level_rank()),
+        sets: is_ours && may_tell_sets(offered, back, level.level_rank(), b.level_rank()),
+        level_sets: is_ours && with_level_sets(offered, back, level.level_rank()),
     })
 }
 

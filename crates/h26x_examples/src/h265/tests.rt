@@ -28,18 +28,24 @@ fn a_frame_is_sent(rt: HostRuntime) {
     assert!(rt; send_frame(rt.alloc(), &[0x26, 0x01, 0xaf]).is_ok());
 }
 
+/// Whether the first of two packets has an SPS and a PPS of temporal id 1, and their header.
+fn has_own_header(made: Result<Vec<Vec<u8>>, PacketError>) -> bool {
+    let want = [0x60, 0x01, 0x00, 0x02, 0x42, 0x01, 0x00, 0x02, 0x44, 0x01];
+    match made {
+        Ok(packets) if packets.len() == 2 => packets[0].as_slice() == want.as_slice(),
+        _ => false,
+    }
+}
+
 /// An SPS and a PPS of temporal id 1 before a slice of 3 (RFC 7798, 4.4.2).
 #[test]
 fn sets_have_their_own_header(rt: HostRuntime) {
     let frame = [
         0, 0, 1, 0x42, 0x01, 0, 0, 1, 0x44, 0x01, 0, 0, 1, 0x02, 0x03, 0xaa,
     ];
-    let want = [0x60, 0x01, 0x00, 0x02, 0x42, 0x01, 0x00, 0x02, 0x44, 0x01];
-    let sets = match packets_of_frame(rt.alloc(), &frame) {
-        Ok(packets) if packets.len() == 2 => packets[0].as_slice() == want.as_slice(),
-        _ => false,
-    };
-    assert!(rt; sets);
+    let made = has_own_header(packets_of_frame(rt.alloc(), &frame));
+    let made_before = has_own_header(packets_made_before(rt.alloc(), &frame));
+    assert!(rt; (made, made_before) == (true, true));
 }
 
 #[test]
