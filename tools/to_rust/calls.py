@@ -5,6 +5,7 @@ error where it lacks. Rust's other calls end the process then, where Rattle's an
 |---|---|
 | of a function of the sources | yes |
 | a method of `METHODS`, a function or a path of `PATHS`, a macro of `MACROS` | yes: it wants no memory |
+| a macro of the sources | yes: what it is made of and what it is given are looked at |
 | `try_reserve` and the calls of `support.rs` (`HANDED_ON`) | yes: they answer an error, and rustc warns where nobody takes it |
 | `push`, `append`, .. | where a rule wrote it, for `.unwrap()` of a call that may fail or for a `.._reserved`: there is room |
 | a name of `TAKING`, whatever it is called of | no, but in the files of `OWN`, whose types have one of their own |
@@ -44,7 +45,7 @@ HANDED_ON = {"try_append", "try_extend_from_slice", "try_insert", "try_push", "t
 # What `support` and `pointers` have instead of a crate's: the texts that they make are handed on.
 METHODS_OF_SUPPORT = {"decode", "encode", "encode_string"}
 PATHS_OF_SUPPORT = {
-    "Vec": {"try_from_slice", "try_reserve", "try_with_room"}, "TryVec": {"try_push"}, "support": {"try_format"},
+    "Vec": {"try_from_slice", "try_reserve", "try_with_room"}, "TryVec": {"try_push"}, "support": {"try_format", "try_reserve"},
     "pointers": {"try_box"}, "hex": {"encode", "encode_upper"}, "<": {"from_hex"},
 }
 # Calls for which a rule has found that there is room.
@@ -77,6 +78,7 @@ class Calls:
         """`files` are the trees of all sources, and `named` gives the name that a function of them has in Rust."""
         self.own = {named(function.name) for items in files for function in functions(items)}
         self.types = {name for items in files for name in types_of(items)}
+        self.macros = MACROS | {name for items in files for name in macros_of(items)}
         self.foreign = PRELUDE | {here for items in files for tree in imports(items) for _, here in leaves(tree)}
 
     def check(self, items, place):
@@ -133,7 +135,7 @@ class Calls:
 
     def macro(self, name, arguments, has_formatter):
         is_write = name == "write" and has_formatter and bare(commas(arguments.items)[0]) == "f"
-        if name not in MACROS and not is_write:
+        if name not in self.macros and not is_write:
             unknown(name + "!")
 
     def method(self, items, i, has_formatter):
@@ -202,6 +204,13 @@ def generics_start(items, i):
         if depth == 0:
             return i
         i = before(items, i)
+
+
+def macros_of(items):
+    """The names of macros that a file has."""
+    for i, it in enumerate(items):
+        if is_word(it, "macro_rules"):
+            yield items[after(items, after(items, i))].text
 
 
 def types_of(items):

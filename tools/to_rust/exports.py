@@ -4,7 +4,7 @@
 |---|---|---|
 | `#[unsafe(no_mangle)] pub extern "C" fn h26x_x(..)` | `pub fn h26x_x(..)` of the same body; in a module `exports` of the crate a function of C's form that calls it | the body stays safe, and all that C gives is taken in one file |
 | `x: &[u8]`, `x: &[u16]`, `x: &[RtpPayload]` of an export | `x: *const u8, x_len: usize`, then `items(x, x_len)` | NULL has length 0 |
-| `to: &mut [u8]`, `name_to: &mut [u8]`, `ends: &mut [usize]`, `numbers: &mut [u16]`, `points: &mut [PointNumbers]`, `told: &mut [PushTold]`, `told: &mut [ReceivedTold]`, `packet: &mut [u8]` | the same, as `room`, `name_room`, `ends_room`, `numbers_room`, `points_room`, `told_room` and `packet_len`, then `room(..)` | as the header names them; a struct of `ENTRIES` is of numbers alone, so that any memory is one |
+| `to: &mut [u8]`, `name_to: &mut [u8]`, `ends: &mut [usize]`, `numbers: &mut [u16]`, `points: &mut [PointNumbers]`, `told: &mut [PushTold]`, `told: &mut [ReceivedTold]`, `blocks: &mut [BlockPlace]`, `packet: &mut [u8]` | the same, as `room`, `name_room`, `ends_room`, `numbers_room`, `points_room`, `told_room`, `blocks_room` and `packet_len`, then `room(..)` | as the header names them; a struct of `ENTRIES` is of numbers alone, so that any memory is one |
 | `x: &Config` of an export, and the other types of `LOOKED_AT` | `x: *const Config`, then `shared(x)` | it is there |
 | `x: &mut usize`, and the other types of `OUTPUTS`, which nothing reads; of all functions of the crates that C reaches | `x: &mut MaybeUninit<usize>`, `*x = y` is `x.write(y)`; of an export `x: *mut usize`, then `output(x, ..)` | C leaves it uninitialised; NULL isn't wanted |
 | `extra: &mut u8` of an export, which it reads | `extra: *mut u8`, then `in_out(extra, ..)` | NULL is read as 0 |
@@ -28,14 +28,16 @@ REACHED = {"h26x_codes", "h26x_sdp_handles", "h26x_handles", "h26x_endpoint", "h
 UNSAFE = {"h26x_c"}
 NUMBERS = {"u8", "u16", "u32", "u64", "usize"}
 # What a call writes for C. `Place` is where a handle is written.
-OUTPUTS = NUMBERS | {"Refusal", "Shown", "Place", "UnitTold", "Counts", "ConstraintNumbers", "RtpPlaces", "Report",
-                     "Sources", "DatagramTold", "RtxNumbers"}
+OUTPUTS = NUMBERS | {"Refusal", "Shown", "Place", "UnitTold", "SoFarTold", "Counts", "ConstraintNumbers",
+                     "RtpPlaces", "Report", "Sources", "DatagramTold", "Streams", "SentCounts", "RtxNumbers",
+                     "StreamNumbers", "ElementPlace"}
 # What C gives rows of to be written: numbers, and structs of nothing else.
-ENTRIES = {"u8", "u16", "usize", "PointNumbers", "PushTold", "ReceivedTold"}
+ENTRIES = {"u8", "u16", "usize", "PointNumbers", "PushTold", "ReceivedTold", "BlockPlace"}
 # What C gives rows of to be looked at.
-ROWS = {"u8", "u16", "RtpPayload"}
+ROWS = {"u8", "u16", "usize", "RtpPayload"}
 # What a call only looks at: a handle, and what a caller sets.
-LOOKED_AT = {"ConstHandle", "Config", "NackTimes", "RtpFields", "Report", "PayloadTypes", "Sources", "RtxNumbers"}
+LOOKED_AT = {"ConstHandle", "Config", "NackTimes", "RtpFields", "Report", "PayloadTypes", "Sources", "Streams",
+             "RtxNumbers"}
 # What a call reads and changes.
 LENT = {"Handle", "Statistics"}
 # Of these the outputs that are only written, with their names.
@@ -208,13 +210,14 @@ class Exports:
                  "Config": "access_units", "Counts": "access_units",
                  "NackTimes": "access_units", "RtpFields": "rtp", "RtpPlaces": "rtp", "Report": "rtcp",
                  "Statistics": "rtcp", "PayloadTypes": "rtp_receiver", "Sources": "rtp_receiver",
-                 "DatagramTold": "rtp_receiver"}
+                 "DatagramTold": "rtp_receiver", "Streams": "rtp_sender", "SentCounts": "rtp_sender",
+                 "SoFarTold": "so_far", "ElementPlace": "parts", "BlockPlace": "parts"}
         uses += [f"pub use super::{file}::{kind};" for kind, file in kinds.items() if re.search(rf"\b{kind}\b", used)]
         below = {"Refusal": "h26x_codes::code", "UnitTold": "h26x_handles::access_units",
                  "RtpPayload": "h26x_handles::payloads", "PushTold": "h26x_handles::push_all",
                  "ReceivedTold": "h26x_handles::receive_all",
                  "ConstraintNumbers": "h26x_sdp_handles::sdp_values", "PointNumbers": "h26x_sdp_handles::sdp_values",
-                 "RtxNumbers": "h26x_sdp_handles::repair"}
+                 "RtxNumbers": "h26x_sdp_handles::repair", "StreamNumbers": "h26x_sdp_handles::streams"}
         uses += [f"pub use crate::proved::{file}::{kind};" for kind, file in below.items() if kind in used]
         return "\n".join([HEAD, *uses, "", *calls])
 

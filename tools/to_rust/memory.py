@@ -6,6 +6,7 @@
 | `x.push(y)?`, `Vec::with_capacity(n)?`, .. and functions of such names | `x.try_push(y)?`, .. | they answer a `Result`; std's `try_reserve` has that prefix, and `support.rs` the others |
 | `x.push(y).unwrap()` and others of `ROOM`, `x.push_back_reserved(y)` | `x.push(y)`, `x.push_back(y)`; of bytes `append_bytes` | it is proved that there is room |
 | an end `x.reserve(n)` of a function that answers `AllocError` | `Ok(x.try_reserve(n)?)` | std's error is another type |
+| such an end `Vec::reserve(x, n)`, as sinks have it | `crate::support::try_reserve(x, n)` | it is asked for each unit: no call where there is room |
 | `mem::replace(x, Vec::new())` | `mem::take(x)` | idiom |
 | `format!(in alloc; ..)` | `crate::support::try_format(format_args!(..))` | std's asks for memory by calls that abort |
 
@@ -164,6 +165,16 @@ def convert_ends(items, lists):
             start -= 1
         start = after(body, start - 1)
         body[start:end + 1] = [Token("word", "Ok"), Group("(", body[start:end + 1] + [Token("sign", "?")])]
+    return items
+
+
+def ask_first(items):
+    """A sink's `try_reserve` calls std's where there is no room."""
+    for i, it in enumerate(items):
+        inside = at(items, after(items, i))
+        if is_word(it, "Ok") and is_group(inside, "(") and bare(inside.items[:3]) == "Vec :: try_reserve":
+            arguments = inside.items[3]
+            items[i:after(items, i) + 1] = [*parse("crate::support::try_reserve"), arguments]
     return items
 
 

@@ -2,7 +2,7 @@
 
 from pathlib import Path
 
-from . import calls, contracts, exports, idiom, laws, memory, types
+from . import calls, contracts, exports, idiom, laws, memory, types, uncalled
 from .tree import after, at, deep, functions, is_group, is_sign, is_word, parse, words_of, written
 
 
@@ -15,7 +15,7 @@ class Crate:
 
     def __init__(self, folder, name, owed):
         self.name, self.root, self.owed = name, folder / name / "src", owed
-        self.files, self.words, self.exports = {}, {}, {}
+        self.files, self.words, self.exports, self.uncalled = {}, {}, {}, set()
         self.read("lib.rt", self.root / "lib.rt", self.root)
         self.files = idiom.use_portable(name, self.files)
 
@@ -31,7 +31,8 @@ class Crate:
 
     def thin(self, names):
         """Leaves what runs; files of which nothing is left are dropped, with their modules."""
-        files = {place: laws.erase_laws(items, names) for place, items in self.files.items()}
+        files = {place: self.called(place, items) for place, items in self.files.items()}
+        files = {place: laws.erase_laws(items, names) for place, items in files.items()}
         files = {place: deep(items, memory.erase_allocators) for place, items in files.items()}
         empty = set()
         while True:
@@ -42,6 +43,14 @@ class Crate:
             empty |= more
         self.files = {place: items for place, items in files.items() if place not in empty}
         self.gone = {place.removesuffix(".rt").split("/")[-1] for place in empty} - {"lib"}
+
+    def called(self, place, items):
+        """A file without what nobody calls; what goes is noted."""
+        before = [function.name for function in functions(items)]
+        items = uncalled.erase_cases(uncalled.erase_uncalled(f"{self.name}/{place}", items))
+        left = [function.name for function in functions(items)]
+        self.uncalled |= {f"{self.name}/src/{place}: {name}" for name in before if before.count(name) > left.count(name)}
+        return items
 
 
 def modules(items):
@@ -115,6 +124,7 @@ class Translation:
         for name in kept:
             lines += ["#[forbid(unsafe_code)]"] * (bool(shared) and name not in exports.UNSAFE)
             lines += [f'#[cfg(feature = "{FEATURES[name]}")]'] if name in FEATURES else []
+            lines += ["#[cfg(test)]"] if name in uncalled.TESTED else []
             lines += [f"pub mod {name};"]
         return "\n".join([*lines, ""])
 
@@ -137,13 +147,19 @@ class Translation:
         items = deep(items, idiom.erase_examples)
         items = deep(items, idiom.put_behind_std(self.of_std))
         items = deep(items, idiom.rewrite_paths(self.module, crate.name, self.names))
-        items = deep(deep(items, exports.write_boxes), memory.write_formats)
+        items = deep(deep(deep(items, exports.write_boxes), memory.ask_first), memory.write_formats)
         items = deep(items, self.types.change)
         items = idiom.unlink(exports.add_import(idiom.add_imports(items, fallible.traits)))
+        items = uncalled.mark_others(f"{crate.name}/{place}", items)
         idiom.check_words(items, f"{crate.name}/{place}")
         self.calls.check(items, f"{crate.name}/{place}")
         text = idiom.OF_MEMORY.sub("", written(items))
         return f"// Made from crates/{crate.name}/src/{place} by tools/to-rust.\n\n{text}"
+
+    def uncalled(self, crates):
+        """What was dropped since nobody calls it, but for laws."""
+        said = sorted(said for crate in crates for said in crate.uncalled if said.split(": ")[1] not in self.laws)
+        return ["Functions that are dropped, since nobody calls them.", "", *(f"    {one}" for one in said), ""] * bool(said)
 
     def erased(self, crates):
         """What a reviewer looks through: what was dropped, and what was kept from callers."""
@@ -152,5 +168,6 @@ class Translation:
         return "\n".join([
             "Functions that are dropped, with the calls of them: they do nothing, and stand there for a contract.", "",
             *(f"    {name}" for name in sorted({name for crate in crates for name in crate.laws})), "",
+            *self.uncalled(crates),
             "Functions that only the crate may call, since nothing checks what a caller owes.", "",
             *(f"    {said}" for said in sorted(owed)), ""])

@@ -28,7 +28,7 @@ ADDED = {
     "RtpPacket": "Clone Copy PartialEq Eq Hash", "HeldPacket": "Clone PartialEq Eq Hash",
     "AccessUnit": "Clone PartialEq Eq Hash", "OpenAccessUnit": "Clone PartialEq Eq", "AccessUnitSoFar": "Clone PartialEq Eq",
     "OpenText": "Clone", "OpenRun": "Clone", "ReorderBuffer": "Clone", "NumberOrder": "Clone", "Parted": "Clone",
-    "SparePayloads": "Clone",
+    "SparePayloads": "Clone", "UnitSlices": "Clone",
     "NotHeld": "Clone PartialEq Eq Hash", "NotHeldReason": "Hash",
     "ReceivedAccessUnit": "Clone PartialEq Eq Hash", "NotPushed": "Clone PartialEq Eq Hash", "NotPushedReason": "Hash",
     "AccessUnitConfig": "Hash", "Counts": "Hash",

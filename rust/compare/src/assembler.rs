@@ -7,6 +7,7 @@ use crate::log::{Log, became, code, told};
 #[cfg(feature = "library")]
 use crate::log::{Outcome, Received, number};
 use crate::making::Making;
+use crate::random::Random;
 use crate::runs::beside;
 use emupedestal::{AccessUnitAssembler, Codec, ReorderBuffer, RtpPacket};
 
@@ -23,17 +24,8 @@ struct Unit {
     is_whole: bool,
 }
 
-pub fn assembled(seed: u64, case: u64, ours: &mut Log, theirs: &mut Log) {
-    let mut m = Making::new(seed ^ 0xf7a3e5, case);
-    let codec = [Codec::H264, Codec::H265, Codec::H266][m.codec];
-    let unit_limit = m.random.of(&[0, 6, 12, 40, 1000, usize::MAX]);
-    let window = m.random.of(&[1, 2, 3, 8, 64]);
-    let mut assembler = AccessUnitAssembler::new(codec, usize::MAX, unit_limit);
-    let mut buffer = ReorderBuffer::new(window);
-    let avc = m.random.one_in(4);
-    assembler.set_avc(avc);
-    assembler.with_donl(m.has_donl);
-    // Packets of some pictures: fragments, units and what strangers send, with losses and repeats.
+/// Packets of some pictures: fragments, units and what strangers send, with losses and repeats.
+fn drawn(m: &mut Making) -> Vec<Rtp> {
     let mut sequence = m.random.word() as u16;
     let mut timestamp = m.random.word();
     let mut packets: Vec<Rtp> = Vec::new();
@@ -60,21 +52,15 @@ pub fn assembled(seed: u64, case: u64, ours: &mut Log, theirs: &mut Log) {
             packets[i] = packets[i - 1].clone();
         }
     }
+    packets
+}
 
+/// What is due, in the order in which a buffer gives it out.
+fn in_order(packets: &[Rtp], window: u16, ours: &mut Log, theirs: &mut Log) -> Vec<Rtp> {
+    let mut buffer = ReorderBuffer::new(window);
     let mut model_buffer = ModelBuffer::new(window);
-    #[cfg(feature = "library")]
-    let mut model = Model {
-        codec,
-        packets: c::receiver(number(codec), m.has_donl, avc, usize::MAX),
-        expected: None,
-        open: None,
-        closed: None,
-        given: Vec::new(),
-        unit_limit,
-    };
-    // What is due, in the order in which the buffer gives it out.
     let mut due: Vec<Rtp> = Vec::new();
-    for packet in &packets {
+    for packet in packets {
         ours.say(
             "push",
             buffer.push(&rtp(packet)).map(|it| format!("{it:?}")),
@@ -99,6 +85,30 @@ pub fn assembled(seed: u64, case: u64, ours: &mut Log, theirs: &mut Log) {
         ours.say("first", due.last());
         theirs.say("first", model_buffer.pop_first().as_ref());
     }
+    due
+}
+
+pub fn assembled(seed: u64, case: u64, ours: &mut Log, theirs: &mut Log) {
+    let mut m = Making::new(seed ^ 0xf7a3e5, case);
+    let codec = [Codec::H264, Codec::H265, Codec::H266][m.codec];
+    let unit_limit = m.random.of(&[0, 6, 12, 40, 1000, usize::MAX]);
+    let window = m.random.of(&[1, 2, 3, 8, 64]);
+    let mut assembler = AccessUnitAssembler::new(codec, usize::MAX, unit_limit);
+    let avc = m.random.one_in(4);
+    assembler.set_avc(avc);
+    assembler.with_donl(m.has_donl);
+    let packets = drawn(&mut m);
+    #[cfg(feature = "library")]
+    let mut model = Model {
+        codec,
+        packets: c::receiver(number(codec), m.has_donl, avc, usize::MAX),
+        expected: None,
+        open: None,
+        closed: None,
+        given: Vec::new(),
+        unit_limit,
+    };
+    let due = in_order(&packets, window, ours, theirs);
     let mut units = Vec::new();
     for packet in &due {
         let received = assembler.receive(&rtp(packet), &mut units);
@@ -146,6 +156,30 @@ fn rtp(packet: &Rtp) -> RtpPacket<'_> {
     }
 }
 
+/// A packet at one of the places, which goes on, or stays the one of before.
+fn at_a_place(random: &mut Random, places: &mut [(u16, bool)], place: &mut usize) -> Rtp {
+    if random.one_in(6) {
+        *place = random.below(places.len());
+    }
+    let (number, goes_up) = &mut places[*place];
+    let step = if random.one_in(8) {
+        random.below(40) as u16
+    } else {
+        1
+    };
+    *number = if *goes_up {
+        number.wrapping_add(step)
+    } else {
+        number.wrapping_sub(step)
+    };
+    (
+        *number,
+        random.word(),
+        random.one_in(2),
+        vec![random.byte()],
+    )
+}
+
 /// Many packets held at once, which come again and again at a few places among the others, as a buffer
 /// parts its list there.
 pub fn reordered(seed: u64, case: u64, ours: &mut Log, theirs: &mut Log) {
@@ -165,26 +199,7 @@ pub fn reordered(seed: u64, case: u64, ours: &mut Log, theirs: &mut Log) {
         .collect();
     let mut place = 0;
     for _ in 0..random.between(50, 600) {
-        if random.one_in(6) {
-            place = random.below(places.len());
-        }
-        let (number, goes_up) = &mut places[place];
-        let step = if random.one_in(8) {
-            random.below(40) as u16
-        } else {
-            1
-        };
-        *number = if *goes_up {
-            number.wrapping_add(step)
-        } else {
-            number.wrapping_sub(step)
-        };
-        let packet = (
-            *number,
-            random.word(),
-            random.one_in(2),
-            vec![random.byte()],
-        );
+        let packet = at_a_place(&mut random, &mut places, &mut place);
         ours.say(
             "push",
             buffer.push(&rtp(&packet)).map(|it| format!("{it:?}")),

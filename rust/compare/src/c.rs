@@ -89,6 +89,11 @@ impl End {
         unsafe { h26x_packetizer_set_numbers(&mut self.raw, numbers) };
     }
 
+    /// Those of H.265 and H.266; that of H.264 answers that it has none.
+    pub fn lowest_header(&mut self, lowest: bool) {
+        unsafe { h26x_packetizer_set_lowest_header(&mut self.raw, lowest) };
+    }
+
     pub fn max_size(&mut self, bytes: u16) {
         unsafe { h26x_packetizer_set_max_size(&mut self.raw, bytes) };
     }
@@ -357,16 +362,23 @@ impl End {
         counts
     }
 
-    /// The text of parameters.
-    pub fn text(&self) -> String {
-        let (mut text, mut len) = (vec![0; 1000], 0);
-        while unsafe { h26x_sdp_write(&self.raw, text.as_mut_ptr(), text.len(), &mut len) }
+    /// The text of parameters, written into room that is used again.
+    pub fn text_in<'a>(&self, room: &'a mut Vec<u8>) -> &'a [u8] {
+        let mut len = 0;
+        while unsafe { h26x_sdp_write(&self.raw, room.as_mut_ptr(), room.len(), &mut len) }
             == NO_ROOM
         {
-            text.resize(len, 0);
+            room.resize(len.max(1000), 0);
         }
-        text.truncate(len);
-        String::from_utf8(text).expect("text")
+        &room[..len]
+    }
+
+    /// The text of parameters.
+    pub fn text(&self) -> String {
+        let mut room = vec![0; 1000];
+        let len = self.text_in(&mut room).len();
+        room.truncate(len);
+        String::from_utf8(room).expect("text")
     }
 
     /// Gives a parameter a value; the code.
@@ -402,6 +414,28 @@ impl End {
             h26x_sdp_answer_webrtc(&self.raw, &ours.raw, any_order, raw)
         })
         .ok()
+    }
+
+    /// The same by options.
+    pub fn answer_with(&self, ours: &End, options: u32) -> Option<End> {
+        made(self.free, |raw| unsafe {
+            h26x_sdp_answer_with(&self.raw, &ours.raw, options, raw)
+        })
+        .ok()
+    }
+
+    /// What is agreed by these parameters and another end's, by options.
+    pub fn agreed(&self, other: &End, options: u32) -> [Stream; 2] {
+        let [mut sends, mut receives] = [Stream::default(); 2];
+        let code =
+            unsafe { h26x_sdp_agreed(&self.raw, &other.raw, options, &mut sends, &mut receives) };
+        assert_eq!(code, 0);
+        [sends, receives]
+    }
+
+    /// Whether ours receives these parameters as they are.
+    pub fn is_accepted(&self, ours: &End, options: u32) -> bool {
+        unsafe { h26x_sdp_accepts_declared(&self.raw, &ours.raw, options) == 0 }
     }
 }
 

@@ -61,10 +61,8 @@ const PICTURES: [[&[u8]; 5]; 3] = [
     ],
 ];
 
-pub fn access_units(seed: u64, case: u64, ours: &mut Log, theirs: &mut Log) {
-    let mut m = Making::new(seed ^ 0x51ab77, case);
-    let codec = [Codec::H264, Codec::H265, Codec::H266][m.codec];
-    let config = AccessUnitConfig {
+fn drawn_config(m: &mut Making) -> AccessUnitConfig {
+    AccessUnitConfig {
         window: m.random.of(&[1, 2, 3, 8, 64]),
         far: m.random.of(&[0, 1, 30, 3000]),
         far_behind: m.random.of(&[0, 1, 20, 100]),
@@ -74,33 +72,138 @@ pub fn access_units(seed: u64, case: u64, ours: &mut Log, theirs: &mut Log) {
         run_limit: m.random.of(&[3, 20, usize::MAX]),
         unit_limit: m.random.of(&[0, 12, 40, usize::MAX]),
         has_sets: m.random.one_in(3),
-    };
-    let avc = m.random.one_in(3);
-    let mut receiver = AccessUnitReceiver::with_settings(codec, m.has_donl, avc, config);
-    #[cfg(feature = "library")]
-    let mut c_receiver = c::access_units(&header::Config {
+    }
+}
+
+/// The same settings for the other side.
+#[cfg(feature = "library")]
+fn c_settings(codec: Codec, has_donl: bool, avc: bool, config: AccessUnitConfig) -> header::Config {
+    header::Config {
         codec: number(codec),
         max_wait: config.max_wait,
         begin_wait: config.begin_wait,
         window: config.window,
         far_away: config.far,
         far_behind: config.far_behind,
-        numbers: m.has_donl,
+        numbers: has_donl,
         avc,
         has_sets: config.has_sets,
         held_limit: config.held_limit,
         run_limit: config.run_limit,
         unit_limit: config.unit_limit,
-    });
+    }
+}
+
+fn drawn_payload(m: &mut Making) -> Vec<u8> {
+    match m.random.below(3) {
+        0 => m.random.of(&PICTURES[m.codec]).to_vec(),
+        _ => m.packet(),
+    }
+}
+
+/// Access units that have ended, some of which are given back.
+fn say_units(
+    receiver: &mut AccessUnitReceiver,
+    now: u32,
+    codec: Codec,
+    m: &mut Making,
+    ours: &mut Log,
+) {
+    while let Some(unit) = receiver.next(now).expect("memory") {
+        let is = (
+            unit.is_whole,
+            unit.is_clean,
+            unit.is_disposable,
+            unit.continues,
+            told(codec, unit.extra),
+        );
+        ours.say(
+            "unit",
+            (
+                unit.timestamp,
+                unit.missing,
+                unit.first,
+                unit.last,
+                is,
+                &unit.bytes,
+            ),
+        );
+        if m.random.one_in(2) {
+            receiver.give_back(unit);
+        }
+    }
+}
+
+/// What is waited for, and what was counted.
+fn say_counts(receiver: &AccessUnitReceiver, ours: &mut Log) {
+    ours.say(
+        "waits",
+        (receiver.deadline(), receiver.missing().expect("memory")),
+    );
+    let it = receiver.counts();
+    let gone = [
+        it.taken, it.lost, it.late, it.twice, it.stray, it.refused, it.skipped, it.anew,
+    ];
+    let given_up = [it.units_given_up, it.texts_given_up];
+    let framing = [it.no_unit, it.still, it.unbelieved];
+    ours.say("counts", (gone, it.units, it.whole, given_up, framing));
+}
+
+/// All of this of the other side.
+#[cfg(feature = "library")]
+fn say_other(c_receiver: &mut c::End, now: u32, theirs: &mut Log) {
+    while let Some((unit, bytes)) = c_receiver.next_unit(now) {
+        let is = (
+            unit.is_whole,
+            unit.is_clean,
+            unit.is_disposable,
+            unit.continues,
+            unit.extra,
+        );
+        theirs.say(
+            "unit",
+            (
+                unit.timestamp,
+                unit.missing,
+                unit.first,
+                unit.last,
+                is,
+                bytes,
+            ),
+        );
+    }
+    theirs.say("waits", (c_receiver.deadline(), c_receiver.missing()));
+    let [
+        gone @ ..,
+        units,
+        whole,
+        of_units,
+        of_texts,
+        no_unit,
+        still,
+        unbelieved,
+    ] = c_receiver.counts();
+    let framing = [no_unit, still, unbelieved];
+    theirs.say(
+        "counts",
+        (gone, units, whole, [of_units, of_texts], framing),
+    );
+}
+
+pub fn access_units(seed: u64, case: u64, ours: &mut Log, theirs: &mut Log) {
+    let mut m = Making::new(seed ^ 0x51ab77, case);
+    let codec = [Codec::H264, Codec::H265, Codec::H266][m.codec];
+    let config = drawn_config(&mut m);
+    let avc = m.random.one_in(3);
+    let mut receiver = AccessUnitReceiver::with_settings(codec, m.has_donl, avc, config);
+    #[cfg(feature = "library")]
+    let mut c_receiver = c::access_units(&c_settings(codec, m.has_donl, avc, config));
     let (mut sequence, mut timestamp, mut now) =
         (m.random.word() as u16, m.random.word(), m.random.word());
     for _ in 0..m.random.between(4, 60) {
         sequence = m.next_number(sequence);
         now = now.wrapping_add(m.random.of(&[0, 0, 1, 7, 30]));
-        let payload = match m.random.below(3) {
-            0 => m.random.of(&PICTURES[m.codec]).to_vec(),
-            _ => m.packet(),
-        };
+        let payload = drawn_payload(&mut m);
         let marker = m.random.one_in(4);
         if m.random.one_in(16) {
             ours.say("skip", pushed(receiver.skip(now, sequence)));
@@ -141,50 +244,9 @@ pub fn access_units(seed: u64, case: u64, ours: &mut Log, theirs: &mut Log) {
         if m.random.one_in(3) {
             continue;
         }
-        while let Some(unit) = receiver.next(now).expect("memory") {
-            let is = (
-                unit.is_whole,
-                unit.is_clean,
-                unit.is_disposable,
-                unit.continues,
-                told(codec, unit.extra),
-            );
-            ours.say(
-                "unit",
-                (
-                    unit.timestamp,
-                    unit.missing,
-                    unit.first,
-                    unit.last,
-                    is,
-                    &unit.bytes,
-                ),
-            );
-            if m.random.one_in(2) {
-                receiver.give_back(unit);
-            }
-        }
-        ours.say(
-            "waits",
-            (receiver.deadline(), receiver.missing().expect("memory")),
-        );
-        let it = receiver.counts();
-        let gone = [
-            it.taken, it.lost, it.late, it.twice, it.stray, it.refused, it.skipped, it.anew,
-        ];
-        let given_up = [it.units_given_up, it.texts_given_up];
-        let framing = [it.no_unit, it.still, it.unbelieved];
-        ours.say("counts", (gone, it.units, it.whole, given_up, framing));
-        beside! {
-            while let Some((unit, bytes)) = c_receiver.next_unit(now) {
-                let is = (unit.is_whole, unit.is_clean, unit.is_disposable, unit.continues, unit.extra);
-                theirs.say("unit", (unit.timestamp, unit.missing, unit.first, unit.last, is, bytes));
-            }
-            theirs.say("waits", (c_receiver.deadline(), c_receiver.missing()));
-            let [gone @ .., units, whole, of_units, of_texts, no_unit, still, unbelieved] = c_receiver.counts();
-            let framing = [no_unit, still, unbelieved];
-            theirs.say("counts", (gone, units, whole, [of_units, of_texts], framing));
-        }
+        say_units(&mut receiver, now, codec, &mut m, ours);
+        say_counts(&receiver, ours);
+        beside! { say_other(&mut c_receiver, now, theirs); }
     }
     let _ = theirs;
 }

@@ -143,320 +143,492 @@ pub fn all(seed: u64, case: u64) -> (Log, Log) {
     (ours, theirs)
 }
 
-fn run(seed: u64, case: u64, ours: &mut Log, theirs: &mut Log) {
-    let mut m = Making::new(seed, case);
-    let codec = [Codec::H264, Codec::H265, Codec::H266][m.codec];
-    let id = number(codec);
-    let mut sends: Box<dyn Sends> = match codec {
-        Codec::H264 => Box::<H264Packetizer>::default(),
-        Codec::H265 => Box::<H265Packetizer>::default(),
-        Codec::H266 => Box::<H266Packetizer>::default(),
-    };
-    let mut receives: Box<dyn Receives> = match codec {
-        Codec::H264 => Box::<H264Depacketizer>::default(),
-        Codec::H265 => Box::<H265Depacketizer>::default(),
-        Codec::H266 => Box::<H266Depacketizer>::default(),
-    };
-    let run_limit = m.random.of(&[0, 1, 3, 8, 20, 100, 5000, usize::MAX]);
-    let mut sequenced = SequencedDepacketizer::new(codec, run_limit);
-    let mut any = CodecDepacketizer::new(codec);
-    let mut any_sends = CodecPacketizer::new(codec);
-    let mut has_donl = m.has_donl;
-    let (mut avc, mut lowest) = (false, m.codec == 1 && m.random.one_in(2));
-    sends.lowest(lowest);
-    sends.donl(has_donl);
-    receives.donl(has_donl);
-    sequenced.with_donl(has_donl);
-    if has_donl {
-        any_sends.configure_for(Some(1));
-    }
-    #[cfg(feature = "library")]
-    let (mut c_sends, mut c_any_sends) = (c::packetizer(id, false), c::packetizer(id, has_donl));
-    #[cfg(feature = "library")]
-    let (mut c_receives, mut c_any) = (c::depacketizer(id, false), c::depacketizer(id, false));
-    #[cfg(feature = "library")]
-    let mut c_sequenced = c::receiver(id, has_donl, false, run_limit);
-    #[cfg(feature = "library")]
-    let (mut c_out, mut c_seq_out, mut c_any_out) = (vec![0, 0, 1], Vec::new(), Vec::new());
-    #[cfg(feature = "library")]
-    let (mut c_extra, mut c_seq_extra, mut c_any_extra) = (0, 0, 0);
-    beside! {
-        c_sends.send_numbers(has_donl);
-        c_receives.take_numbers(has_donl);
-    }
-    let headroom = m.random.of(&[0, 0, 12, 28]);
-    let mut packets = Packets::with_headroom(headroom);
-    let mut queue: Vec<Vec<u8>> = Vec::new();
-    let mut sequence = m.random.word() as u16;
-    let (mut out, mut extra) = (vec![0, 0, 1], CodecExtra::None);
-    let (mut seq_out, mut seq_extra) = (Vec::new(), CodecExtra::None);
-    let (mut any_out, mut any_extra) = (Vec::new(), CodecExtra::None);
-    for _ in 0..m.random.between(4, 24) {
-        match m.random.below(24) {
-            0..6 => {
-                let (limit, payload) = m.payload();
-                let made = packets_of(sends.packetize(limit, &payload));
-                ours.say("packetize", &made);
-                let found: Vec<&[u8]> = units(codec, &payload).collect();
-                let is_plain = |unit: &&[u8]| codec.is_plain_unit(unit);
-                ours.say("plain", found.iter().map(is_plain).collect::<Vec<bool>>());
-                ours.say("units", found);
-                ours.say("plain payload", codec.is_plain_unit(&payload));
-                ours.say("any", packets_of(any_sends.packetize(limit, &payload)));
-                beside! {
-                    theirs.say("packetize", in_vecs(c_sends.packets(false, limit, &payload, 0), id, has_donl, lowest));
-                    let found = c::units(id, &payload);
-                    theirs.say("plain", found.iter().map(|unit| c::is_plain(id, unit)).collect::<Vec<bool>>());
-                    theirs.say("units", found);
-                    theirs.say("plain payload", c::is_plain(id, &payload));
-                    theirs.say("any", in_vecs(c_any_sends.packets(false, limit, &payload, 0), id, has_donl, false));
-                }
-                queue.extend(made.1.into_iter().take(40));
-            }
-            6 | 7 => {
-                let (limit, payload) = m.payload();
-                ours.say("size", sends.size(limit, &payload, headroom));
-                let made = sends.make_into(limit, &payload, &mut packets);
-                ours.say("into", listed(made, &packets));
-                beside! {
-                    theirs.say("size", c_sends.packets_size(limit, &payload, headroom));
-                    let (code, made, ends) = c_sends.packets(false, limit, &payload, headroom);
-                    let (code, made) = in_vecs((code, made, Vec::new()), id, has_donl, lowest);
-                    theirs.say("into", (code, made, ends));
-                }
-                queue.extend(packets.iter().take(40).map(<[u8]>::to_vec));
-            }
-            8 => {
-                let unit = m.unit();
-                let limit = m.limit(std::slice::from_ref(&unit));
-                let made = packets_of(sends.unit(limit, &unit));
-                ours.say("unit", &made);
-                let into = sends.unit_into(limit, &unit, &mut packets);
-                ours.say("unit into", listed(into, &packets));
-                beside! {
-                    theirs.say("unit", in_vecs(c_sends.packets(true, limit, &unit, 0), id, has_donl, false));
-                    theirs.say("unit into", c_sends.packets(true, limit, &unit, headroom));
-                }
-                queue.extend(made.1.into_iter().take(40));
-            }
-            9..15 => {
-                let mut given = std::mem::take(&mut queue);
-                given.extend((0..m.random.below(4)).map(|_| m.packet()));
-                for packet in given {
-                    let packet = m.spoiled(packet);
-                    let taken = outcome(receives.depacketize(&packet, &mut out, &mut extra));
-                    let taken: Taken = (taken, &out, told(codec, extra));
-                    ours.say("take", taken);
-                    let is_shown = m.random.one_in(3);
-                    if is_shown {
-                        ours.say("shown", receives.shows().map(shows));
-                    }
-                    let marker = m.random.one_in(2);
-                    let target = m.random.below(32) as u8;
-                    let (head, tail) = (
-                        receives.is_partition_head(&packet),
-                        receives.is_partition_tail(marker, &packet),
-                    );
-                    let mut lowered = packet.clone();
-                    set_lowest_header(codec, has_donl, &mut lowered);
-                    ours.say("lowest", lowered);
-                    let keys = [
-                        detect_h264_keyframe(&packet),
-                        detect_h265_keyframe(&packet),
-                        detect_h266_keyframe(&packet),
-                    ];
-                    ours.say(
-                        "look",
-                        (head, tail, keys, detect_h264_nalu(&packet, target)),
-                    );
-                    beside! {
-                        let taken = c_receives.depacketize(avc, &packet, &mut c_out, &mut c_extra);
-                        theirs.say("take", (taken, &c_out, c_extra));
-                        if is_shown {
-                            theirs.say("shown", c_receives.shown());
-                        }
-                        theirs.say("lowest", c::with_lowest_header(id, has_donl, packet.clone()));
-                        let keys = [264, 265, 266].map(|id| c::detect(id, &packet));
-                        let (head, tail) = (c::is_head(id, &packet), c::is_tail(id, marker, &packet));
-                        theirs.say("look", (head, tail, keys, c::detect_type(&packet, target)));
-                    }
-                    sequence = m.next_number(sequence);
-                    // A number that came and bears nothing.
-                    if m.random.one_in(16) {
-                        ours.say("skip", became(sequenced.skip(sequence)));
-                        beside! { theirs.say("skip", c_sequenced.skip(sequence)); }
-                        sequence = m.next_number(sequence);
-                    }
-                    let received =
-                        sequenced.receive(sequence, &packet, &mut seq_out, &mut seq_extra);
-                    ours.say("receive", received.map(became).map_err(code));
-                    ours.say(
-                        "received",
-                        (&seq_out, told(codec, seq_extra), sequenced.run_len()),
-                    );
-                    let (is_shown, is_anew) = (m.random.one_in(4), m.random.one_in(40));
-                    if is_shown {
-                        ours.say("shown", sequenced.shown().map(shows));
-                    }
-                    if is_anew {
-                        sequenced.restart();
-                    }
-                    let taken = outcome(any.depacketize(&packet, &mut any_out, &mut any_extra));
-                    let taken: Taken = (taken, &any_out, told(codec, any_extra));
-                    ours.say("any", taken);
-                    beside! {
-                        let received = c_sequenced.receive(sequence, &packet, &mut c_seq_out, &mut c_seq_extra);
-                        theirs.say("receive", received);
-                        theirs.say("received", (&c_seq_out, c_seq_extra, c_sequenced.run_len()));
-                        if is_shown {
-                            theirs.say("shown", c_sequenced.shown());
-                        }
-                        if is_anew {
-                            c_sequenced.restart();
-                        }
-                        let taken = c_any.depacketize(false, &packet, &mut c_any_out, &mut c_any_extra);
-                        theirs.say("any", (taken, &c_any_out, c_any_extra));
-                    }
-                    if out.len() > 4000 {
-                        (out, extra) = (vec![0, 0, 1], CodecExtra::None);
-                        (seq_out, seq_extra) = (Vec::new(), CodecExtra::None);
-                        (any_out, any_extra) = (Vec::new(), CodecExtra::None);
-                        beside! {
-                            (c_out, c_seq_out, c_any_out) = (vec![0, 0, 1], Vec::new(), Vec::new());
-                            (c_extra, c_seq_extra, c_any_extra) = (0, 0, 0);
-                        }
-                    }
-                }
-            }
-            15 => {
-                let many: Vec<Vec<u8>> = (0..m.random.below(8)).map(|_| m.packet()).collect();
-                let all = take_all(&mut any, &many, &mut any_out, &mut any_extra);
-                ours.say(
-                    "all",
-                    all.into_iter().map(outcome).collect::<Vec<Outcome>>(),
-                );
-                ours.say("any out", (&any_out, told(codec, any_extra)));
-                beside! {
-                    let take = |packet: &Vec<u8>| c_any.depacketize(false, packet, &mut c_any_out, &mut c_any_extra);
-                    theirs.say("all", many.iter().map(take).collect::<Vec<Outcome>>());
-                    theirs.say("any out", (&c_any_out, c_any_extra));
-                }
-            }
-            16 => {
-                let largest = m.largest();
-                sends.largest(largest);
-                any_sends.with_max_packet_size(largest);
-                beside! {
-                    c_sends.max_size(largest);
-                    c_any_sends.max_size(largest);
-                }
-            }
-            17 => {
-                has_donl = m.codec != 0 && m.random.one_in(2);
-                m.has_donl = has_donl;
-                sends.donl(has_donl);
-                receives.donl(has_donl);
-                sequenced.with_donl(has_donl);
-                beside! {
-                    c_sends.send_numbers(has_donl);
-                    c_receives.take_numbers(has_donl);
-                    c_sequenced.receive_numbers(has_donl);
-                }
-            }
-            18 => {
-                avc = m.random.one_in(2);
-                receives.avc(avc);
-                sequenced.set_avc(avc);
-                ours.say("avc", sequenced.is_avc());
-                beside! {
-                    c_sequenced.receive_avc(avc);
-                    theirs.say("avc", avc);
-                }
-            }
-            19 => {
-                lowest = m.codec == 1 && m.random.one_in(2);
-                sends.lowest(lowest);
-                receives.give_up();
-                any.give_up_run();
-                beside! {
-                    c_receives.give_up_run();
-                    c_any.give_up_run();
-                }
-            }
-            20 => {
-                sends = sends.copy();
-                receives = receives.copy();
-                sequenced = sequenced.clone();
-                let packet = m.packet();
-                ours.say("same", receives.is_same_as_copy(&packet));
-                beside! {
-                    c_sends = c_sends.packetizer_again();
-                    c_receives = c_receives.depacketizer_again();
-                    c_sequenced = c_sequenced.receiver_again();
-                    let mut copy = c_receives.depacketizer_again();
-                    let same = c_receives.is_same(&copy);
-                    copy.depacketize(avc, &packet, &mut Vec::new(), &mut 0);
-                    theirs.say("same", [same, c_receives.is_same(&copy)]);
-                }
-            }
-            21 => {
-                let (unit, extension) = (m.unit(), m.bytes(34));
-                let packed = H265PACIPacket::packetize(&unit, &extension, &mut vec![7, 8]);
-                ours.say("paci", packed.map_err(|error| code(error).0));
-                beside! { theirs.say("paci", c::paci(&unit, &extension)); }
-            }
-            _ => {
-                let word = m.random.word() & 0xff_ffff;
-                let it = H264ProfileLevel::try_from(word);
-                ours.say(
-                    "h264",
-                    it.ok()
-                        .map(|it| (it.profile() as u8, it.level().ordinal() as u8)),
-                );
-                let three = (
-                    m.random.of(&[1, 2, 17, 33, 65]),
-                    m.random.of(&[0, 1, 2]),
-                    m.random.byte(),
-                );
-                let known = [
-                    H265ProfileTierLevel::from(three).level_id(),
-                    H266ProfileTierLevel::from(three).level_id(),
-                ];
-                ours.say("levels", known);
-                let len = m.random.below(100_000);
-                ours.say("hint", receives.out_size_hint(len));
-                beside! {
-                    theirs.say("h264", c::h264_profile(word));
-                    let [five, six] = c::is_known(three);
-                    // What a format that says nothing has: levels 3.1 and 4.
-                    theirs.say("levels", [if five { three.2 } else { 93 }, if six { three.2 } else { 51 }]);
-                    theirs.say("hint", Some(c::size_hint(len)));
-                }
-            }
-        }
-    }
-    ours.say("out", (&out, &any_out));
-    beside! { theirs.say("out", (&c_out, &c_any_out)); }
-    let _ = (theirs, avc, lowest, id);
-}
-
-/// Packets of the library, under the lowest header of their units where that is asked for.
-#[cfg(feature = "library")]
-fn in_vecs(
-    made: (u32, Vec<Vec<u8>>, Vec<usize>),
+/// What both sides have of a case. The other side's own handles have names that begin with `c`.
+struct Run<'a> {
+    m: Making,
+    codec: Codec,
     id: u32,
     has_donl: bool,
+    avc: bool,
     lowest: bool,
-) -> (u32, Vec<Vec<u8>>) {
-    let (code, packets, _) = made;
-    let set = |packet| {
-        if lowest {
-            c::with_lowest_header(id, has_donl, packet)
-        } else {
-            packet
+    headroom: usize,
+    sends: Box<dyn Sends>,
+    receives: Box<dyn Receives>,
+    sequenced: SequencedDepacketizer,
+    any: CodecDepacketizer,
+    any_sends: CodecPacketizer,
+    packets: Packets,
+    queue: Vec<Vec<u8>>,
+    sequence: u16,
+    out: Vec<u8>,
+    extra: CodecExtra,
+    seq_out: Vec<u8>,
+    seq_extra: CodecExtra,
+    any_out: Vec<u8>,
+    any_extra: CodecExtra,
+    ours: &'a mut Log,
+    theirs: &'a mut Log,
+    #[cfg(feature = "library")]
+    c_sends: c::End,
+    #[cfg(feature = "library")]
+    c_any_sends: c::End,
+    #[cfg(feature = "library")]
+    c_receives: c::End,
+    #[cfg(feature = "library")]
+    c_any: c::End,
+    #[cfg(feature = "library")]
+    c_sequenced: c::End,
+    #[cfg(feature = "library")]
+    c_out: Vec<u8>,
+    #[cfg(feature = "library")]
+    c_seq_out: Vec<u8>,
+    #[cfg(feature = "library")]
+    c_any_out: Vec<u8>,
+    #[cfg(feature = "library")]
+    c_extra: u8,
+    #[cfg(feature = "library")]
+    c_seq_extra: u8,
+    #[cfg(feature = "library")]
+    c_any_extra: u8,
+}
+
+impl<'a> Run<'a> {
+    fn new(seed: u64, case: u64, ours: &'a mut Log, theirs: &'a mut Log) -> Self {
+        let mut m = Making::new(seed, case);
+        let codec = [Codec::H264, Codec::H265, Codec::H266][m.codec];
+        let (sends, receives) = ends_of(codec);
+        let run_limit = m.random.of(&[0, 1, 3, 8, 20, 100, 5000, usize::MAX]);
+        let has_donl = m.has_donl;
+        let lowest = m.codec == 1 && m.random.one_in(2);
+        let headroom = m.random.of(&[0, 0, 12, 28]);
+        let id = number(codec);
+        let mut it = Run {
+            codec,
+            id,
+            has_donl,
+            avc: false,
+            lowest,
+            headroom,
+            sends,
+            receives,
+            sequenced: SequencedDepacketizer::new(codec, run_limit),
+            any: CodecDepacketizer::new(codec),
+            any_sends: CodecPacketizer::new(codec),
+            packets: Packets::with_headroom(headroom),
+            queue: Vec::new(),
+            sequence: m.random.word() as u16,
+            out: vec![0, 0, 1],
+            extra: CodecExtra::None,
+            seq_out: Vec::new(),
+            seq_extra: CodecExtra::None,
+            any_out: Vec::new(),
+            any_extra: CodecExtra::None,
+            ours,
+            theirs,
+            #[cfg(feature = "library")]
+            c_sends: c::packetizer(id, false),
+            #[cfg(feature = "library")]
+            c_any_sends: c::packetizer(id, has_donl),
+            #[cfg(feature = "library")]
+            c_receives: c::depacketizer(id, false),
+            #[cfg(feature = "library")]
+            c_any: c::depacketizer(id, false),
+            #[cfg(feature = "library")]
+            c_sequenced: c::receiver(id, has_donl, false, run_limit),
+            #[cfg(feature = "library")]
+            c_out: vec![0, 0, 1],
+            #[cfg(feature = "library")]
+            c_seq_out: Vec::new(),
+            #[cfg(feature = "library")]
+            c_any_out: Vec::new(),
+            #[cfg(feature = "library")]
+            c_extra: 0,
+            #[cfg(feature = "library")]
+            c_seq_extra: 0,
+            #[cfg(feature = "library")]
+            c_any_extra: 0,
+            m,
+        };
+        it.begin();
+        it
+    }
+
+    /// The settings that new ends haven't.
+    fn begin(&mut self) {
+        self.sends.lowest(self.lowest);
+        self.sends.donl(self.has_donl);
+        self.receives.donl(self.has_donl);
+        self.sequenced.with_donl(self.has_donl);
+        if self.has_donl {
+            self.any_sends.configure_for(Some(1));
         }
-    };
-    (code, packets.into_iter().map(set).collect())
+        beside! {
+            self.c_sends.send_numbers(self.has_donl);
+            self.c_sends.lowest_header(self.lowest);
+            self.c_receives.take_numbers(self.has_donl);
+        }
+    }
+
+    /// A call of some kind.
+    fn step(&mut self) {
+        match self.m.random.below(24) {
+            0..6 => self.packetize(),
+            6 | 7 => self.packetize_into(),
+            8 => self.packetize_unit(),
+            9..15 => self.take_packets(),
+            15 => self.take_many(),
+            16 => self.set_largest(),
+            17 => self.set_donl(),
+            18 => self.set_avc(),
+            19 => self.give_up(),
+            20 => self.copy(),
+            21 => self.make_paci(),
+            _ => self.ask_numbers(),
+        }
+    }
+
+    /// A payload in a list, also by one of any codec, and its units.
+    fn packetize(&mut self) {
+        let (limit, payload) = self.m.payload();
+        let made = packets_of(self.sends.packetize(limit, &payload));
+        self.ours.say("packetize", &made);
+        let found: Vec<&[u8]> = units(self.codec, &payload).collect();
+        let is_plain = |unit: &&[u8]| self.codec.is_plain_unit(unit);
+        self.ours
+            .say("plain", found.iter().map(is_plain).collect::<Vec<bool>>());
+        self.ours.say("units", found);
+        self.ours
+            .say("plain payload", self.codec.is_plain_unit(&payload));
+        self.ours
+            .say("any", packets_of(self.any_sends.packetize(limit, &payload)));
+        beside! {
+            self.theirs.say("packetize", in_vecs(self.c_sends.packets(false, limit, &payload, 0)));
+            let found = c::units(self.id, &payload);
+            self.theirs.say("plain", found.iter().map(|unit| c::is_plain(self.id, unit)).collect::<Vec<bool>>());
+            self.theirs.say("units", found);
+            self.theirs.say("plain payload", c::is_plain(self.id, &payload));
+            self.theirs.say("any", in_vecs(self.c_any_sends.packets(false, limit, &payload, 0)));
+        }
+        self.queue.extend(made.1.into_iter().take(40));
+    }
+
+    /// A payload in a buffer.
+    fn packetize_into(&mut self) {
+        let (limit, payload) = self.m.payload();
+        self.ours
+            .say("size", self.sends.size(limit, &payload, self.headroom));
+        let made = self.sends.make_into(limit, &payload, &mut self.packets);
+        self.ours.say("into", listed(made, &self.packets));
+        beside! {
+            self.theirs.say("size", self.c_sends.packets_size(limit, &payload, self.headroom));
+            let (code, made, ends) = self.c_sends.packets(false, limit, &payload, self.headroom);
+            self.theirs.say("into", (code, made, ends));
+        }
+        self.queue
+            .extend(self.packets.iter().take(40).map(<[u8]>::to_vec));
+    }
+
+    /// A unit as it is.
+    fn packetize_unit(&mut self) {
+        let unit = self.m.unit();
+        let limit = self.m.limit(std::slice::from_ref(&unit));
+        let made = packets_of(self.sends.unit(limit, &unit));
+        self.ours.say("unit", &made);
+        let into = self.sends.unit_into(limit, &unit, &mut self.packets);
+        self.ours.say("unit into", listed(into, &self.packets));
+        beside! {
+            self.theirs.say("unit", in_vecs(self.c_sends.packets(true, limit, &unit, 0)));
+            self.theirs.say("unit into", self.c_sends.packets(true, limit, &unit, self.headroom));
+        }
+        self.queue.extend(made.1.into_iter().take(40));
+    }
+
+    /// The packets that were made, and some of strangers, one by one to all that take packets.
+    fn take_packets(&mut self) {
+        let mut given = std::mem::take(&mut self.queue);
+        given.extend((0..self.m.random.below(4)).map(|_| self.m.packet()));
+        for packet in given {
+            let packet = self.m.spoiled(packet);
+            self.take(&packet);
+            self.receive(&packet);
+            self.take_any(&packet);
+            self.forget_long();
+        }
+    }
+
+    /// A packet by itself, and what can be told of it.
+    fn take(&mut self, packet: &[u8]) {
+        let taken = outcome(
+            self.receives
+                .depacketize(packet, &mut self.out, &mut self.extra),
+        );
+        let taken: Taken = (taken, &self.out, told(self.codec, self.extra));
+        self.ours.say("take", taken);
+        let is_shown = self.m.random.one_in(3);
+        if is_shown {
+            self.ours.say("shown", self.receives.shows().map(shows));
+        }
+        let marker = self.m.random.one_in(2);
+        let target = self.m.random.below(32) as u8;
+        let (head, tail) = (
+            self.receives.is_partition_head(packet),
+            self.receives.is_partition_tail(marker, packet),
+        );
+        let mut lowered = packet.to_vec();
+        set_lowest_header(self.codec, self.has_donl, &mut lowered);
+        self.ours.say("lowest", lowered);
+        let keys = [
+            detect_h264_keyframe(packet),
+            detect_h265_keyframe(packet),
+            detect_h266_keyframe(packet),
+        ];
+        self.ours
+            .say("look", (head, tail, keys, detect_h264_nalu(packet, target)));
+        beside! {
+            let taken = self.c_receives.depacketize(self.avc, packet, &mut self.c_out, &mut self.c_extra);
+            self.theirs.say("take", (taken, &self.c_out, self.c_extra));
+            if is_shown {
+                self.theirs.say("shown", self.c_receives.shown());
+            }
+            self.theirs.say("lowest", c::with_lowest_header(self.id, self.has_donl, packet.to_vec()));
+            let keys = [264, 265, 266].map(|id| c::detect(id, packet));
+            let (head, tail) = (c::is_head(self.id, packet), c::is_tail(self.id, marker, packet));
+            self.theirs.say("look", (head, tail, keys, c::detect_type(packet, target)));
+        }
+    }
+
+    /// A packet with its number.
+    fn receive(&mut self, packet: &[u8]) {
+        self.sequence = self.m.next_number(self.sequence);
+        // A number that came and bears nothing.
+        if self.m.random.one_in(16) {
+            self.ours
+                .say("skip", became(self.sequenced.skip(self.sequence)));
+            beside! { self.theirs.say("skip", self.c_sequenced.skip(self.sequence)); }
+            self.sequence = self.m.next_number(self.sequence);
+        }
+        let received = self.sequenced.receive(
+            self.sequence,
+            packet,
+            &mut self.seq_out,
+            &mut self.seq_extra,
+        );
+        self.ours.say("receive", received.map(became).map_err(code));
+        self.ours.say(
+            "received",
+            (
+                &self.seq_out,
+                told(self.codec, self.seq_extra),
+                self.sequenced.run_len(),
+            ),
+        );
+        let (is_shown, is_anew) = (self.m.random.one_in(4), self.m.random.one_in(40));
+        if is_shown {
+            self.ours.say("shown", self.sequenced.shown().map(shows));
+        }
+        if is_anew {
+            self.sequenced.restart();
+        }
+        beside! {
+            let received = self.c_sequenced.receive(self.sequence, packet, &mut self.c_seq_out, &mut self.c_seq_extra);
+            self.theirs.say("receive", received);
+            self.theirs.say("received", (&self.c_seq_out, self.c_seq_extra, self.c_sequenced.run_len()));
+            if is_shown {
+                self.theirs.say("shown", self.c_sequenced.shown());
+            }
+            if is_anew {
+                self.c_sequenced.restart();
+            }
+        }
+    }
+
+    /// A packet by one of any codec.
+    fn take_any(&mut self, packet: &[u8]) {
+        let taken = outcome(
+            self.any
+                .depacketize(packet, &mut self.any_out, &mut self.any_extra),
+        );
+        let taken: Taken = (taken, &self.any_out, told(self.codec, self.any_extra));
+        self.ours.say("any", taken);
+        beside! {
+            let taken = self.c_any.depacketize(false, packet, &mut self.c_any_out, &mut self.c_any_extra);
+            self.theirs.say("any", (taken, &self.c_any_out, self.c_any_extra));
+        }
+    }
+
+    /// What was written goes where it is long.
+    fn forget_long(&mut self) {
+        if self.out.len() > 4000 {
+            (self.out, self.extra) = (vec![0, 0, 1], CodecExtra::None);
+            (self.seq_out, self.seq_extra) = (Vec::new(), CodecExtra::None);
+            (self.any_out, self.any_extra) = (Vec::new(), CodecExtra::None);
+            beside! {
+                (self.c_out, self.c_seq_out, self.c_any_out) = (vec![0, 0, 1], Vec::new(), Vec::new());
+                (self.c_extra, self.c_seq_extra, self.c_any_extra) = (0, 0, 0);
+            }
+        }
+    }
+
+    /// Many packets in one call.
+    fn take_many(&mut self) {
+        let many: Vec<Vec<u8>> = (0..self.m.random.below(8))
+            .map(|_| self.m.packet())
+            .collect();
+        let all = take_all(&mut self.any, &many, &mut self.any_out, &mut self.any_extra);
+        self.ours.say(
+            "all",
+            all.into_iter().map(outcome).collect::<Vec<Outcome>>(),
+        );
+        self.ours
+            .say("any out", (&self.any_out, told(self.codec, self.any_extra)));
+        beside! {
+            let take = |packet: &Vec<u8>| self.c_any.depacketize(false, packet, &mut self.c_any_out, &mut self.c_any_extra);
+            self.theirs.say("all", many.iter().map(take).collect::<Vec<Outcome>>());
+            self.theirs.say("any out", (&self.c_any_out, self.c_any_extra));
+        }
+    }
+
+    /// Another largest packet.
+    fn set_largest(&mut self) {
+        let largest = self.m.largest();
+        self.sends.largest(largest);
+        self.any_sends.with_max_packet_size(largest);
+        beside! {
+            self.c_sends.max_size(largest);
+            self.c_any_sends.max_size(largest);
+        }
+    }
+
+    /// Numbers on or off.
+    fn set_donl(&mut self) {
+        self.has_donl = self.m.codec != 0 && self.m.random.one_in(2);
+        self.m.has_donl = self.has_donl;
+        self.sends.donl(self.has_donl);
+        self.receives.donl(self.has_donl);
+        self.sequenced.with_donl(self.has_donl);
+        beside! {
+            self.c_sends.send_numbers(self.has_donl);
+            self.c_receives.take_numbers(self.has_donl);
+            self.c_sequenced.receive_numbers(self.has_donl);
+        }
+    }
+
+    /// Start codes or lengths.
+    fn set_avc(&mut self) {
+        self.avc = self.m.random.one_in(2);
+        self.receives.avc(self.avc);
+        self.sequenced.set_avc(self.avc);
+        self.ours.say("avc", self.sequenced.is_avc());
+        beside! {
+            self.c_sequenced.receive_avc(self.avc);
+            self.theirs.say("avc", self.avc);
+        }
+    }
+
+    /// Another header of sets, and open units given up.
+    fn give_up(&mut self) {
+        self.lowest = self.m.codec == 1 && self.m.random.one_in(2);
+        self.sends.lowest(self.lowest);
+        self.receives.give_up();
+        self.any.give_up_run();
+        beside! {
+            self.c_sends.lowest_header(self.lowest);
+            self.c_receives.give_up_run();
+            self.c_any.give_up_run();
+        }
+    }
+
+    /// Copies in the place of all.
+    fn copy(&mut self) {
+        self.sends = self.sends.copy();
+        self.receives = self.receives.copy();
+        self.sequenced = self.sequenced.clone();
+        let packet = self.m.packet();
+        self.ours
+            .say("same", self.receives.is_same_as_copy(&packet));
+        beside! {
+            self.c_sends = self.c_sends.packetizer_again();
+            self.c_receives = self.c_receives.depacketizer_again();
+            self.c_sequenced = self.c_sequenced.receiver_again();
+            let mut copy = self.c_receives.depacketizer_again();
+            let same = self.c_receives.is_same(&copy);
+            copy.depacketize(self.avc, &packet, &mut Vec::new(), &mut 0);
+            self.theirs.say("same", [same, self.c_receives.is_same(&copy)]);
+        }
+    }
+
+    /// A PACI packet.
+    fn make_paci(&mut self) {
+        let (unit, extension) = (self.m.unit(), self.m.bytes(34));
+        let packed = H265PACIPacket::packetize(&unit, &extension, &mut vec![7, 8]);
+        self.ours.say("paci", packed.map_err(|error| code(error).0));
+        beside! { self.theirs.say("paci", c::paci(&unit, &extension)); }
+    }
+
+    /// Profiles, levels and a size.
+    fn ask_numbers(&mut self) {
+        let word = self.m.random.word() & 0xff_ffff;
+        let it = H264ProfileLevel::try_from(word);
+        self.ours.say(
+            "h264",
+            it.ok()
+                .map(|it| (it.profile() as u8, it.level().ordinal() as u8)),
+        );
+        let three = (
+            self.m.random.of(&[1, 2, 17, 33, 65]),
+            self.m.random.of(&[0, 1, 2]),
+            self.m.random.byte(),
+        );
+        let known = [
+            H265ProfileTierLevel::from(three).level_id(),
+            H266ProfileTierLevel::from(three).level_id(),
+        ];
+        self.ours.say("levels", known);
+        let len = self.m.random.below(100_000);
+        self.ours.say("hint", self.receives.out_size_hint(len));
+        beside! {
+            self.theirs.say("h264", c::h264_profile(word));
+            let [five, six] = c::is_known(three);
+            // What a format that says nothing has: levels 3.1 and 4.
+            self.theirs.say("levels", [if five { three.2 } else { 93 }, if six { three.2 } else { 51 }]);
+            self.theirs.say("hint", Some(c::size_hint(len)));
+        }
+    }
+}
+
+/// The ends of a codec.
+fn ends_of(codec: Codec) -> (Box<dyn Sends>, Box<dyn Receives>) {
+    match codec {
+        Codec::H264 => (
+            Box::<H264Packetizer>::default(),
+            Box::<H264Depacketizer>::default(),
+        ),
+        Codec::H265 => (
+            Box::<H265Packetizer>::default(),
+            Box::<H265Depacketizer>::default(),
+        ),
+        Codec::H266 => (
+            Box::<H266Packetizer>::default(),
+            Box::<H266Depacketizer>::default(),
+        ),
+    }
+}
+
+fn run(seed: u64, case: u64, ours: &mut Log, theirs: &mut Log) {
+    let mut it = Run::new(seed, case, ours, theirs);
+    for _ in 0..it.m.random.between(4, 24) {
+        it.step();
+    }
+    it.ours.say("out", (&it.out, &it.any_out));
+    beside! { it.theirs.say("out", (&it.c_out, &it.c_any_out)); }
+    let _ = (it.theirs, it.id);
+}
+
+/// Packets of the library.
+#[cfg(feature = "library")]
+fn in_vecs(made: (u32, Vec<Vec<u8>>, Vec<usize>)) -> (u32, Vec<Vec<u8>>) {
+    let (code, packets, _) = made;
+    (code, packets)
 }
 
 /// All numbers of profiles, tiers and levels.

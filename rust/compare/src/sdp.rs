@@ -13,10 +13,10 @@ use crate::network::refusal;
 use crate::random::Random;
 use drawn::{Table, Values, spoil};
 use emupedestal::sdp::{
-    AnswerConfig, AnswerRules, CodecParameters, H264Parameter, H265Parameter, H266Parameter,
-    Parameter,
+    AgreedSets, AgreedStream, AnswerConfig, AnswerRules, CodecParameters, Direction, H264Parameter,
+    H265Parameter, H266Parameter, Parameter,
 };
-use reading::{Format, Row, Rules};
+use reading::{Format, Row, Rules, Stream, Way};
 use std::slice;
 use std::thread;
 
@@ -70,8 +70,24 @@ fn lower_levels<'a>(
 struct Counts {
     pairs: u64,
     answers: u64,
+    declared: u64,
     texts: u64,
     taken: u64,
+}
+
+/// Room for texts that is used again.
+#[derive(Default)]
+struct Room {
+    texts: [[String; TOGETHER]; 2],
+    written: Written,
+}
+
+/// The same for what is written.
+#[derive(Default)]
+struct Written {
+    plain: String,
+    #[cfg(feature = "library")]
+    library: Vec<u8>,
 }
 
 /// A format as it is read plainly, by the crate, and by the library.
@@ -82,8 +98,23 @@ struct Read<'a, P: Parameter> {
     library: c::End,
 }
 
-/// Reads a text by each side, which say the same.
-fn read_by_each<'a, P: Parameter>(codec: &Codec, text: &'a str) -> Option<Read<'a, P>> {
+impl<P: Parameter> Read<'_, P> {
+    fn sides(&self) -> Sides<'_, P> {
+        Sides {
+            plain: &self.plain,
+            crates: &self.crates,
+            #[cfg(feature = "library")]
+            library: &self.library,
+        }
+    }
+}
+
+/// Reads a text by each side, which say the same; leaves what the plain reading writes of it.
+fn read_by_each<'a, P: Parameter>(
+    codec: &Codec,
+    text: &'a str,
+    room: &mut Written,
+) -> Option<Read<'a, P>> {
     let plain = Format::read(codec.rows, text);
     let crates = text.parse::<CodecParameters<P>>();
     let is_one = match (&plain, &crates) {
@@ -92,12 +123,15 @@ fn read_by_each<'a, P: Parameter>(codec: &Codec, text: &'a str) -> Option<Read<'
         _ => false,
     };
     assert!(is_one, "the crate reads {crates:?} of {text:?}");
+    if let Ok(plain) = &plain {
+        plain.write(&mut room.plain);
+    }
     #[cfg(feature = "library")]
     let library = c::sdp(codec.number, text.as_bytes());
     #[cfg(feature = "library")]
     {
-        let said = plain.as_ref().map(Format::text).map_err(|it| *it);
-        let written = library.as_ref().map(c::End::text).map_err(|it| *it);
+        let written = library.as_ref().map(|it| it.text_in(&mut room.library));
+        let said = plain.as_ref().map(|_| room.plain.as_bytes());
         assert_eq!(written, said, "the library reads {text:?}");
     }
     Some(Read {
@@ -109,21 +143,18 @@ fn read_by_each<'a, P: Parameter>(codec: &Codec, text: &'a str) -> Option<Read<'
 }
 
 /// Reads a text, and what is written of it again; whether it is taken.
-fn take_text<P: Parameter>(codec: &Codec, text: &str) -> bool {
-    let Some(read) = read_by_each::<P>(codec, text) else {
+fn take_text<P: Parameter>(codec: &Codec, text: &str, room: &mut Written) -> bool {
+    let Some(read) = read_by_each::<P>(codec, text, room) else {
         return false;
     };
     let written = read.crates.to_string();
-    assert_eq!(written, read.plain.text(), "the crate writes {text:?}");
-    assert_eq!(
-        written.parse().as_ref(),
-        Ok(&read.crates),
-        "{text:?} read again"
-    );
+    assert_eq!(written, room.plain, "the crate writes {text:?}");
+    let again = written.parse();
+    assert_eq!(again.as_ref(), Ok(&read.crates), "{text:?} read again");
     true
 }
 
-/// The answer by the plain reading.
+/// The answer by the plain reading: what is to be ignored in a direction isn't heard, and isn't answered.
 fn plain_answer<'a>(
     codec: &Codec,
     offer: &Format<'a>,
@@ -131,11 +162,18 @@ fn plain_answer<'a>(
     rules: Rules,
     room: &'a mut String,
 ) -> Option<Format<'a>> {
-    match codec.number {
+    if !(codec.is_allowed)(own, rules) {
+        return None;
+    }
+    let offer = &offer.heard(rules.way.of_other());
+    let own = &own.heard(rules.way);
+    let mut answer = match codec.number {
         264 => h264::answer(offer, own, rules, room),
         265 => h265::answer(offer, own, rules),
         _ => h266::answer(offer, own, rules),
-    }
+    }?;
+    answer.ignore(rules.way);
+    Some(answer)
 }
 
 /// Whether the crate's format says the same as one that is read plainly.
@@ -145,25 +183,134 @@ fn says<P: Parameter>(it: &CodecParameters<P>, plain: &Format) -> bool {
         && it.others().eq(plain.others().iter().copied())
 }
 
+/// The crate's name of rules.
+fn config_of(rules: Rules) -> AnswerConfig {
+    AnswerConfig {
+        any_order: rules.any_order,
+        rules: if rules.webrtc {
+            AnswerRules::Webrtc
+        } else {
+            AnswerRules::Rfc
+        },
+        direction: match rules.way {
+            Way::Both => Direction::SendRecv,
+            Way::Receives => Direction::RecvOnly,
+            Way::Sends => Direction::SendOnly,
+        },
+        multicast: rules.multicast,
+    }
+}
+
+/// The library's number of rules.
+#[cfg(feature = "library")]
+fn options_of(rules: Rules) -> u32 {
+    let way = match rules.way {
+        Way::Both => 0,
+        Way::Sends => 4,
+        Way::Receives => 8,
+    };
+    let [any_order, webrtc, multicast] =
+        [rules.any_order, rules.webrtc, rules.multicast].map(u32::from);
+    any_order + 2 * webrtc + way + 16 * multicast
+}
+
+/// The stream from one end to another by the plain reading.
+fn plain_stream(codec: &Codec, sender: &Format, receiver: &Format, rules: Rules) -> Stream {
+    match codec.number {
+        264 => h264::stream(sender, receiver, rules),
+        265 => h265::stream(sender, receiver),
+        _ => h266::stream(sender, receiver),
+    }
+}
+
+/// What the crate says of a stream.
+fn stream_of(it: AgreedStream) -> Stream {
+    Stream {
+        level: it.level,
+        mode: it.mode,
+        sets: match it.sets {
+            AgreedSets::InBand => "in band",
+            AgreedSets::Told => "told",
+            AgreedSets::ToldOfLevel => "told of level",
+        },
+    }
+}
+
+/// What the library says of one.
+#[cfg(feature = "library")]
+fn stream_of_library(it: header::Stream) -> Option<Stream> {
+    it.is_there.then(|| Stream {
+        level: it.level,
+        mode: it.has_mode.then_some(it.mode),
+        sets: ["in band", "told", "told of level"][it.sets as usize],
+    })
+}
+
+/// A format as each side has it.
+struct Sides<'a, P: Parameter> {
+    plain: &'a Format<'a>,
+    crates: &'a CodecParameters<P>,
+    #[cfg(feature = "library")]
+    library: &'a c::End,
+}
+
+/// What an end sends and receives by its format and another's.
+fn take_agreed<P: Parameter>(codec: &Codec, [own, other]: [&Sides<P>; 2], rules: Rules) {
+    let sends =
+        (rules.way != Way::Receives).then(|| plain_stream(codec, own.plain, other.plain, rules));
+    let receives =
+        (rules.way != Way::Sends).then(|| plain_stream(codec, other.plain, own.plain, rules));
+    let wanted = [sends, receives];
+    let pair = [own.crates, other.crates];
+    let agreed = own.crates.agreed_with(config_of(rules), other.crates);
+    let agreed = [agreed.sends, agreed.receives].map(|it| it.map(stream_of));
+    assert_eq!(agreed, wanted, "agreed by {pair:?}, {rules:?}");
+    #[cfg(feature = "library")]
+    {
+        let agreed = own.library.agreed(other.library, options_of(rules));
+        let agreed = agreed.map(stream_of_library);
+        assert_eq!(agreed, wanted, "the library's of {pair:?}, {rules:?}");
+    }
+}
+
+/// Whether one of ours receives what is declared.
+fn take_declared<P: Parameter>(
+    codec: &Codec,
+    declared: &Read<P>,
+    own: &Read<P>,
+    rules: Rules,
+) -> bool {
+    let accepts = match codec.number {
+        264 => h264::accepts(&declared.plain, &own.plain, rules),
+        265 => h265::accepts(&declared.plain, &own.plain, rules),
+        _ => h266::accepts(&declared.plain, &own.plain, rules),
+    };
+    let ours = slice::from_ref(&own.crates);
+    let said = declared.crates.is_accepted_with(config_of(rules), ours);
+    let pair = [&declared.crates, &own.crates];
+    assert_eq!(said, accepts, "declared and ours {pair:?} by {rules:?}");
+    #[cfg(feature = "library")]
+    {
+        let said = declared
+            .library
+            .is_accepted(&own.library, options_of(rules));
+        assert_eq!(said, accepts, "the library's of {pair:?} by {rules:?}");
+    }
+    accepts
+}
+
 /// Answers an offer by each side; whether there is an answer.
-fn take_pair<P: Parameter>(codec: &Codec, offer: &Read<P>, own: &Read<P>, rules: Rules) -> bool {
-    let mut made = String::new();
-    let Rules { webrtc, any_order } = rules;
-    let by = if webrtc {
-        AnswerRules::Webrtc
-    } else {
-        AnswerRules::Rfc
-    };
-    let config = AnswerConfig {
-        any_order,
-        rules: by,
-        ..AnswerConfig::default()
-    };
+fn take_pair<P: Parameter>(
+    codec: &Codec,
+    offer: &Read<P>,
+    own: &Read<P>,
+    rules: Rules,
+    room: &mut Written,
+) -> bool {
+    let (mut made, config) = (String::new(), config_of(rules));
     let plain = plain_answer(codec, &offer.plain, &own.plain, rules, &mut made);
-    let answer = offer
-        .crates
-        .answer_with(config, slice::from_ref(&own.crates))
-        .expect("memory");
+    let ours = slice::from_ref(&own.crates);
+    let answer = offer.crates.answer_with(config, ours).expect("memory");
     let is_one = match (&answer, &plain) {
         (Some(answer), Some(plain)) => says(answer, plain),
         (answer, plain) => answer.is_none() && plain.is_none(),
@@ -174,23 +321,41 @@ fn take_pair<P: Parameter>(codec: &Codec, offer: &Read<P>, own: &Read<P>, rules:
         "the crate answers {answer:?} to {pair:?} by {rules:?}"
     );
     let is_allowed = plain.is_some() || own.crates.broken_rule_with(config).is_none();
+    let is_allowed_plainly = (codec.is_allowed)(&own.plain, rules);
     assert_eq!(
-        is_allowed,
-        (codec.is_allowed)(&own.plain, rules),
+        is_allowed, is_allowed_plainly,
         "{:?} by {rules:?}",
         own.crates
     );
     #[cfg(feature = "library")]
+    let library = offer.library.answer_with(&own.library, options_of(rules));
+    #[cfg(feature = "library")]
     {
-        let answer = match (webrtc, any_order) {
-            (true, _) => offer.library.answer_webrtc(&own.library, any_order),
-            (false, true) => offer.library.answer_any_order(&own.library),
-            (false, false) => offer.library.answer(&own.library),
-        };
-        let answer = answer.map(|it| it.text());
-        let said = plain.as_ref().map(Format::text);
+        let answer = library.as_ref().map(|it| it.text_in(&mut room.library));
+        let said = plain.as_ref().map(|it| {
+            it.write(&mut room.plain);
+            room.plain.as_bytes()
+        });
         assert_eq!(answer, said, "the library answers to {pair:?} by {rules:?}");
     }
+    #[cfg(not(feature = "library"))]
+    let _ = room;
+    // Both ends see alike what is agreed.
+    let offered = offer.sides();
+    let mut answered = own.sides();
+    if let (Some(plain), Some(crates)) = (&plain, &answer) {
+        (answered.plain, answered.crates) = (plain, crates);
+    }
+    #[cfg(feature = "library")]
+    if let Some(library) = &library {
+        answered.library = library;
+    }
+    take_agreed(codec, [&answered, &offered], rules);
+    let of_other = Rules {
+        way: rules.way.of_other(),
+        ..rules
+    };
+    take_agreed(codec, [&offered, &answered], of_other);
     plain.is_some()
 }
 
@@ -204,6 +369,7 @@ fn draw_like<'a, P: Parameter>(
     values: &Values,
     random: &mut Random,
     texts: &'a mut [String],
+    room: &mut Written,
 ) -> Vec<Read<'a, P>> {
     for text in &mut *texts {
         let is_like = !random.one_in(10);
@@ -216,7 +382,7 @@ fn draw_like<'a, P: Parameter>(
     }
     texts
         .iter()
-        .filter_map(|text| read_by_each(codec, text))
+        .filter_map(|text| read_by_each(codec, text, room))
         .collect()
 }
 
@@ -225,51 +391,49 @@ fn take_pairs<P: Parameter>(
     codec: &Codec,
     table: &Table,
     random: &mut Random,
-    texts: &mut Texts,
+    room: &mut Room,
     counts: &mut Counts,
 ) {
     let values = table.format(random);
-    let [offers, ours] = texts;
-    let offers = draw_like::<P>(codec, table, &values, random, offers);
-    let ours = draw_like::<P>(codec, table, &values, random, ours);
+    let ([offers, ours], room) = (&mut room.texts, &mut room.written);
+    let offers = draw_like::<P>(codec, table, &values, random, offers, room);
+    let ours = draw_like::<P>(codec, table, &values, random, ours, room);
     for own in &ours {
         for offer in &offers {
-            let any_order = random.one_in(2);
+            let drawn = Rules::draw(random);
             for webrtc in [false, true] {
-                let rules = Rules { webrtc, any_order };
-                counts.answers += u64::from(take_pair(codec, offer, own, rules));
+                let rules = Rules { webrtc, ..drawn };
+                counts.answers += u64::from(take_pair(codec, offer, own, rules, room));
+                counts.declared += u64::from(take_declared(codec, offer, own, rules));
             }
             counts.pairs += 1;
         }
     }
 }
 
-/// Room for texts that is used again.
-type Texts = [[String; TOGETHER]; 2];
-
 /// One case: a text, or pairs.
 fn take<P: Parameter>(
     codec: &Codec,
     table: &Table,
     random: &mut Random,
-    texts: &mut Texts,
+    room: &mut Room,
     counts: &mut Counts,
     is_text: bool,
 ) {
     if !is_text {
-        return take_pairs::<P>(codec, table, random, texts, counts);
+        return take_pairs::<P>(codec, table, random, room, counts);
     }
-    let text = &mut texts[0][0];
+    let text = &mut room.texts[0][0];
     table.write(&table.some(random), random, text);
     spoil(text, random);
-    counts.taken += u64::from(take_text::<P>(codec, text));
+    counts.taken += u64::from(take_text::<P>(codec, text, &mut room.written));
     counts.texts += 1;
 }
 
 /// Draws so many pairs and texts, of the three codecs in turn; ends at the first difference.
 fn run_thread(seed: u64, [pairs, texts]: [u64; 2]) -> Counts {
     let (tables, mut counts) = (Table::all(), Counts::default());
-    let mut room = Texts::default();
+    let mut room = Room::default();
     let mut case = 0;
     while counts.pairs < pairs || counts.texts < texts {
         let random = &mut Random::of_case(seed, case);
@@ -297,6 +461,7 @@ pub fn run(seed: u64, cases: [u64; 2], threads: u64) {
         counts.fold(Counts::default(), |a, b| Counts {
             pairs: a.pairs + b.pairs,
             answers: a.answers + b.answers,
+            declared: a.declared + b.declared,
             texts: a.texts + b.texts,
             taken: a.taken + b.taken,
         })
@@ -304,16 +469,19 @@ pub fn run(seed: u64, cases: [u64; 2], threads: u64) {
     let Counts {
         pairs,
         answers,
+        declared,
         texts,
         taken,
     } = counts;
     println!(
-        "seed {seed}: {pairs} pairs, {answers} answers by two rules, {texts} texts, {taken} taken, 0 differences"
+        "seed {seed}: {pairs} pairs, {answers} answers and {declared} declared by two rules, {texts} texts, {taken} taken, 0 differences"
     );
     let are_some = |some: u64, all: u64| all < 1000 || all / 10 < some && some < all;
-    assert!(
-        are_some(answers / 2, pairs),
-        "some have answers, and some have none"
-    );
+    for some in [answers, declared] {
+        assert!(
+            are_some(some / 2, pairs),
+            "some are answered or received, and some aren't"
+        );
+    }
     assert!(are_some(taken, texts), "some are taken, and some are not");
 }

@@ -36,6 +36,7 @@ use core::fmt;
 pub use crate::proved::h26x_access_units::{
     AccessUnitConfig, Counts, NackTimes, NotPushed, NotPushedReason, Pushed, ReceivedAccessUnit,
 };
+pub use crate::proved::h26x_assembler::UnitsSoFar;
 
 /// A window of 512 packets and no limit on the time; nothing waits at the beginning of a stream; a number 3000 or
 /// more ahead and 100 or more behind is a stray (RFC 3550, A.1); 8 MB for what waits and for an open access unit, and 4 MB for an open unit.
@@ -148,6 +149,7 @@ impl AccessUnitReceiver {
     /// once where none waits, none is known to be missing before it, and no access unit that ended is left. One without
     /// a payload came and bears nothing, as for [`skip`](Self::skip). The error is `OutOfMemory` alone; all stays as it
     /// was then, and the packet can be given again.
+    #[inline]
     pub fn push(&mut self, now: u32, packet: &RtpPacket<'_>) -> Result<Pushed, PacketError> {
         self.inner.try_push(now, packet)
     }
@@ -169,8 +171,34 @@ impl AccessUnitReceiver {
     /// next one.
     ///
     /// The error is `OutOfMemory` alone: the packet for which memory lacks is due still.
+    #[inline]
     pub fn next(&mut self, now: u32) -> Result<Option<ReceivedAccessUnit>, PacketError> {
         self.inner.next(now)
+    }
+
+    /// The NAL units that came whole so far of the access unit that is open, for who decodes each as soon as it is
+    /// complete: none where [`next`](Self::next) hasn't given out what ended before. Later packets put units behind
+    /// these, until `next` gives out the access unit, with what is told of the whole. A text of more than `unit_limit`
+    /// bytes is given up.
+    ///
+    /// ```rust
+    /// # use emupedestal::{AccessUnitReceiver, Codec, RtpPacket};
+    /// # let mut receiver = AccessUnitReceiver::new(Codec::H264, Default::default());
+    /// # fn decode(_units: &[u8]) {}
+    /// # let packet = RtpPacket { sequence: 7, timestamp: 0, marker: false, payload: &[0x65, 1] };
+    /// // how many bytes of the access unit were decoded
+    /// let mut decoded = 0;
+    /// receiver.push(0, &packet)?;
+    /// # assert!(receiver.next(0)?.is_none());
+    /// if let Some(unit) = receiver.units_so_far() {
+    ///     decode(&unit.bytes[decoded..]);
+    ///     decoded = unit.bytes.len();
+    /// }
+    /// # assert_eq!(decoded, 6);
+    /// # Ok::<(), emupedestal::PacketError>(())
+    /// ```
+    pub fn units_so_far(&self) -> Option<UnitsSoFar<'_>> {
+        self.inner.units_so_far()
     }
 
     /// The numbers that are missing before packets that wait, in order: those to ask the sender for again (NACK, RFC
@@ -227,6 +255,7 @@ impl AccessUnitReceiver {
 
     /// Takes an access unit's memory back, for a later one: of those that are given back the largest of at most
     /// `unit_limit` bytes is kept.
+    #[inline]
     pub fn give_back(&mut self, unit: ReceivedAccessUnit) {
         self.inner.give_back(unit);
     }

@@ -128,8 +128,9 @@ mod packet;
 mod packetizer;
 mod packets;
 mod profile;
-// What a caller above doesn't reach stays, as it was proved, and so do forms that Rust has shorter.
-#[allow(dead_code, missing_docs, unused_imports)]
+// What the layer doesn't import stays, as it was proved, and so do forms that Rust has shorter.
+#[allow(missing_docs, unused_imports)]
+#[cfg_attr(not(all(feature = "std", feature = "sdp")), allow(dead_code))]
 #[allow(clippy::explicit_auto_deref, clippy::explicit_counter_loop)]
 #[allow(clippy::manual_find, clippy::manual_map, clippy::manual_range_contains)]
 #[allow(clippy::manual_unwrap_or_default, clippy::mem_replace_option_with_some)]

@@ -1,10 +1,8 @@
 //! What can be told of packets and payloads without a packetizer or a depacketizer.
 
-use crate::proved::h26x_cut::{ZeroRule, next_unit};
+use crate::proved::h26x_cut::{self, UnitSlices};
 use crate::proved::h265_payload;
-use crate::support::Count;
 use crate::{Codec, detect_h264_keyframe, detect_h265_keyframe, detect_h266_keyframe};
-use core::fmt;
 use core::iter::FusedIterator;
 
 /// Whether a packet without decoding order numbers is known to hold a unit of a keyframe, or to be the
@@ -49,40 +47,22 @@ pub fn set_lowest_header(codec: Codec, has_donl: bool, packet: &mut [u8]) {
 /// assert_eq!(found, [&[0x67, 0x42][..], &[0x65]]);
 /// ```
 pub fn units(codec: Codec, payload: &[u8]) -> Units<'_> {
-    Units {
-        rule: codec.zero_rule(),
-        payload,
-        end: 0,
-    }
+    let slices = h26x_cut::units(payload, codec.zero_rule());
+    Units { slices }
 }
 
 /// The units of a payload that are left, in order: what [`units`] answers.
-#[derive(Clone)]
+#[derive(Debug, Clone)]
 pub struct Units<'a> {
-    rule: ZeroRule,
-    payload: &'a [u8],
-    /// Where the last unit ended.
-    end: usize,
-}
-
-/// Of bytes it tells how many there are.
-impl fmt::Debug for Units<'_> {
-    fn fmt(&self, f: &mut fmt::Formatter<'_>) -> fmt::Result {
-        f.debug_struct("Units")
-            .field("rule", &self.rule)
-            .field("payload", &Count(self.payload.len()))
-            .field("end", &self.end)
-            .finish()
-    }
+    slices: UnitSlices<'a>,
 }
 
 impl<'a> Iterator for Units<'a> {
     type Item = &'a [u8];
 
+    #[inline]
     fn next(&mut self) -> Option<&'a [u8]> {
-        let place = next_unit(self.payload, self.rule, self.end)?;
-        self.end = place.end;
-        self.payload.get(place)
+        self.slices.next()
     }
 }
 

@@ -5,7 +5,7 @@ mod every_unit;
 use crate::proved::h26x_core::Packetizer as _;
 use crate::proved::h26x_packetizer::{PacketsSize, PayloadPacketizer, Placement};
 use crate::proved::h264_payload::H264;
-use crate::proved::h265_payload::{H265, set_lowest_header};
+use crate::proved::h265_payload::H265Sending;
 use crate::proved::h266_payload::H266;
 use crate::support::AllocError;
 use crate::{PacketError, Packetizer, Packets};
@@ -32,32 +32,6 @@ fn make_into<E: From<AllocError>>(
     }
 }
 
-/// Which header parameter sets in one packet of H.265 have: that of the unit behind them, or that of
-/// their own.
-#[derive(Debug, Clone, Copy, Default)]
-struct SetsHeader {
-    has_donl: bool,
-    is_lowest: bool,
-}
-
-impl SetsHeader {
-    fn set_each(self, packets: &mut [Vec<u8>]) {
-        if self.is_lowest {
-            for packet in packets {
-                set_lowest_header(self.has_donl, packet);
-            }
-        }
-    }
-
-    fn set_all(self, packets: &mut Packets) {
-        if self.is_lowest {
-            for i in 0..packets.len() {
-                set_lowest_header(self.has_donl, packets.packet_mut(i));
-            }
-        }
-    }
-}
-
 macro_rules! packetizer {
     ($(#[$doc:meta])* $name:ident, $codec:ty) => {
         $(#[$doc])*
@@ -67,7 +41,6 @@ macro_rules! packetizer {
         #[derive(Debug)]
         pub struct $name {
             inner: PayloadPacketizer<$codec>,
-            sets_header: SetsHeader,
             delimiters: bool,
         }
 
@@ -75,7 +48,6 @@ macro_rules! packetizer {
             fn default() -> Self {
                 $name {
                     inner: PayloadPacketizer::new(),
-                    sets_header: SetsHeader::default(),
                     delimiters: true,
                 }
             }
@@ -85,7 +57,6 @@ macro_rules! packetizer {
             fn clone(&self) -> Self {
                 $name {
                     inner: self.inner.try_clone().expect("memory"),
-                    sets_header: self.sets_header,
                     delimiters: self.delimiters,
                 }
             }
@@ -105,9 +76,7 @@ macro_rules! packetizer {
             ) -> Result<(), PacketError> {
                 make_into(packets, |headroom, to, ends| {
                     self.inner.packetize_to_memory(mtu, b, headroom, to, ends)
-                })?;
-                self.sets_header.set_all(packets);
-                Ok(())
+                })
             }
 
             /// How many packets [`packetize_into`](Self::packetize_into) would make of `b`, and how many
@@ -156,9 +125,7 @@ macro_rules! packetizer {
 
         impl Packetizer for $name {
             fn packetize(&mut self, mtu: usize, b: &[u8]) -> Result<Vec<Vec<u8>>, PacketError> {
-                let mut packets = self.inner.packetize(mtu, b)?;
-                self.sets_header.set_each(&mut packets);
-                Ok(packets)
+                self.inner.packetize(mtu, b)
             }
 
             fn is_marker(&mut self, data: &[u8], previous: Option<&[u8]>, last: bool) -> bool {
@@ -203,7 +170,7 @@ packetizer! {
     /// assert_eq!(packets, [[0x26, 0x01, 0xaf]]);
     /// # Ok::<(), emupedestal::PacketError>(())
     /// ```
-    H265Packetizer, H265
+    H265Packetizer, H265Sending
 }
 
 packetizer! {
@@ -238,7 +205,6 @@ macro_rules! numbered {
             /// begin at 0 again.
             pub fn with_donl(&mut self, has_donl: bool) {
                 self.inner.with_donl(has_donl);
-                self.sets_header.has_donl = has_donl;
             }
 
             /// Sets the largest packet size, in bytes, as the `mtu` counts them: no packet of a later
@@ -279,7 +245,7 @@ impl H265Packetizer {
     /// # Ok::<(), emupedestal::PacketError>(())
     /// ```
     pub fn with_lowest_header(&mut self, is_lowest: bool) {
-        self.sets_header.is_lowest = is_lowest;
+        self.inner.with_lowest_header(is_lowest);
     }
 }
 

@@ -79,12 +79,6 @@ impl Packets {
         &mut self.bytes[place]
     }
 
-    /// Packet `i` without its headroom, to be written. It panics past the last.
-    pub(crate) fn packet_mut(&mut self, i: usize) -> &mut [u8] {
-        let headroom = self.headroom;
-        &mut self.datagram_mut(i)[headroom..]
-    }
-
     /// All packets, one behind the other, each behind its headroom.
     pub fn bytes(&self) -> &[u8] {
         &self.bytes[..self.end_of_first(self.count)]
@@ -100,6 +94,12 @@ impl Packets {
     /// before it ends.
     pub fn ends(&self) -> &[usize] {
         &self.ends[..self.count]
+    }
+
+    /// All packets, to be written in place, and where each ends.
+    pub(crate) fn parts_mut(&mut self) -> (&mut [u8], &[usize]) {
+        let len = self.end_of_first(self.count);
+        (&mut self.bytes[..len], &self.ends[..self.count])
     }
 
     /// Where packet `i` stands with its headroom.

@@ -26,4 +26,5 @@ pub mod h26x_rtp_sender;
 pub mod h26x_sdp;
 #[cfg(feature = "sdp")]
 pub mod h26x_stream_parameters;
+#[cfg(test)]
 pub mod h26x_transmission;

@@ -71,7 +71,9 @@
 //!
 //! Encrypted packets (SRTP) are read as any others: only their headers make sense.
 
-pub use crate::proved::h26x_rtp::{ElementForm, RtpElement, RtpElements};
+pub use crate::proved::h26x_rtp::{
+    ElementForm, PlacedElement, RtpElement, RtpElementError, RtpElements,
+};
 pub use crate::proved::h26x_rtp::{FullIntraRequest, PictureLoss, ReceiverReport, ReportBlock};
 pub use crate::proved::h26x_rtp::{
     GenericNack, NackNumbers, NackPair, NackPairs, NackWritten, write_nack,

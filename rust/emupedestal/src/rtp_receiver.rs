@@ -34,7 +34,7 @@
 //! ```
 
 use crate::access_unit_receiver::{
-    AccessUnitConfig, Counts, NackTimes, ReceivedAccessUnit, check_window,
+    AccessUnitConfig, Counts, NackTimes, ReceivedAccessUnit, UnitsSoFar, check_window,
 };
 use crate::proved::h26x_codec::AnyPayloadDepacketizer;
 use crate::proved::h26x_rtp_receiver::ReceivesRtp as _;
@@ -131,6 +131,12 @@ impl RtpReceiver {
     /// alone: the packet for which memory lacks is due still.
     pub fn next(&mut self, now: u32) -> Result<Option<ReceivedAccessUnit>, PacketError> {
         self.inner.next(now)
+    }
+
+    /// The NAL units that came whole so far of the access unit that is open, as those of an
+    /// [`AccessUnitReceiver`](crate::AccessUnitReceiver::units_so_far).
+    pub fn units_so_far(&self) -> Option<UnitsSoFar<'_>> {
+        self.inner.units_so_far()
     }
 
     /// The missing numbers that are to be asked for at this tick, in order, up to `room` of them (NACK, RFC 4585,

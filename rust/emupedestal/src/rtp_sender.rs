@@ -29,7 +29,6 @@
 //! ```
 
 use crate::Packets;
-use crate::proved::h26x_packetizer::PacketBuffer;
 use crate::proved::h26x_rtp_sender::RtpSender as Sender;
 use crate::rtp::{RtpExtension, RtpWriteError};
 
@@ -39,8 +38,6 @@ pub use crate::proved::h26x_rtp_sender::{RtpSendError, RtpStream, SentCount};
 #[derive(Debug)]
 pub struct RtpSender {
     inner: Sender,
-    /// The packets of a call, with their headers.
-    packets: PacketBuffer,
 }
 
 impl RtpSender {
@@ -49,7 +46,6 @@ impl RtpSender {
     pub fn new(media: RtpStream, rtx: Option<RtpStream>, history: usize) -> Self {
         RtpSender {
             inner: Sender::new(media, rtx, history),
-            packets: PacketBuffer::new(0),
         }
     }
 
@@ -67,26 +63,9 @@ impl RtpSender {
         packets: &mut Packets,
     ) -> Result<usize, RtpSendError> {
         let headroom = packets.headroom();
-        self.copy(packets)?;
-        let start = self.inner.send(timestamp, extension, &mut self.packets)?;
-        for i in 0..packets.len() {
-            let header = &self.packets.with_headroom(i)[start..headroom];
-            packets.datagram_mut(i)[start..headroom].copy_from_slice(header);
-        }
-        Ok(start)
-    }
-
-    /// Copies packets to the proved sender's buffer, whose memory is used again.
-    fn copy(&mut self, packets: &Packets) -> Result<(), RtpSendError> {
-        if self.packets.headroom() == packets.headroom() {
-            self.packets.clear();
-        } else {
-            self.packets = PacketBuffer::new(packets.headroom());
-        }
-        for packet in packets {
-            self.packets.try_push(packet)?;
-        }
-        Ok(())
+        let (bytes, ends) = packets.parts_mut();
+        self.inner
+            .send_in_memory(timestamp, extension, headroom, ends, bytes)
     }
 
     /// Writes the packet that goes again for the one of this number, as a NACK asks for it, to the front of memory: its

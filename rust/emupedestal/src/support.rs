@@ -74,6 +74,7 @@ pub trait TryVec<T>: Sized {
     fn try_push(&mut self, item: T) -> Result<(), AllocError>;
 
     /// Moves the items of another list to the end of this one.
+    #[cfg_attr(not(test), allow(dead_code))]
     fn try_append(&mut self, other: &mut Vec<T>) -> Result<(), AllocError>;
 
     /// A list of copies of items.
@@ -113,6 +114,16 @@ impl<T> TryVec<T> for Vec<T> {
         made.extend_from_slice(items);
         Ok(made)
     }
+}
+
+/// Room for so many items more: a comparison where it is there, since std's `try_reserve` is a call wherever the
+/// compiler has put that one.
+#[inline(always)]
+pub fn try_reserve<T>(list: &mut Vec<T>, count: usize) -> Result<(), AllocError> {
+    if list.capacity() - list.len() < count {
+        list.try_reserve(count)?;
+    }
+    Ok(())
 }
 
 /// Bytes appended to others.

@@ -10,6 +10,8 @@ mod assembler;
 mod caveats;
 mod codecs;
 mod depacketizer;
+#[cfg(feature = "sdp")]
+mod direction_rows;
 mod ends;
 mod every_unit;
 mod every_unit_received;

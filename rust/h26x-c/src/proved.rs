@@ -22,9 +22,9 @@ mod shared {
     pub mod h26x_reorder;
     pub mod h26x_rtp;
     pub mod h26x_rtp_receiver;
+    pub mod h26x_rtp_sender;
     pub mod h26x_sdp;
     pub mod h26x_stream_parameters;
-    pub mod h26x_transmission;
 }
 
 pub use shared::*;

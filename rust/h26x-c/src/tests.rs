@@ -56,7 +56,7 @@ fn cases(function: &str) -> Vec<(Option<&'static str>, Option<String>)> {
 #[test]
 fn words_of_codes() {
     let cases = cases("*h26x_strerror");
-    assert_eq!(cases.len(), 73);
+    assert_eq!(cases.len(), 76);
     for (name, answer) in cases {
         assert_eq!(
             text(h26x_strerror(name.map_or(u32::MAX, number))),
@@ -116,6 +116,11 @@ fn structs_of_the_header() {
     assert_eq!((offset_of!(Shown, kind), offset_of!(Shown, header)), (0, 4));
     assert_eq!((offset_of!(Shown, word), offset_of!(Shown, parts)), (6, 8));
     assert_eq!(size_of::<Shown>(), 8 + word);
+}
+
+#[test]
+fn access_units_of_the_header() {
+    let word = size_of::<usize>();
     assert_eq!(
         (offset_of!(UnitTold, len), offset_of!(UnitTold, timestamp)),
         (0, word)
@@ -143,6 +148,17 @@ fn structs_of_the_header() {
         (word + 15, word + 16)
     );
     assert_eq!(size_of::<UnitTold>(), (word + 17).next_multiple_of(word));
+}
+
+#[test]
+fn settings_and_counts_of_the_header() {
+    let word = size_of::<usize>();
+    assert_eq!(
+        (offset_of!(SoFarTold, len), offset_of!(SoFarTold, timestamp)),
+        (0, word)
+    );
+    assert_eq!(offset_of!(SoFarTold, extra), word + 4);
+    assert_eq!(size_of::<SoFarTold>(), (word + 5).next_multiple_of(word));
     assert_eq!(
         (offset_of!(Config, codec), offset_of!(Config, max_wait)),
         (0, 4)
@@ -187,6 +203,11 @@ fn structs_of_the_header() {
         (offset_of!(Counts, unbelieved), size_of::<Counts>()),
         (112, 120)
     );
+}
+
+#[test]
+fn numbers_of_sdp_of_the_header() {
+    let word = size_of::<usize>();
     assert_eq!(
         (
             offset_of!(ConstraintNumbers, flags),
@@ -310,6 +331,21 @@ fn structs_of_datagrams() {
             16 + 5 * word
         ]
     );
+    let element = [
+        offset_of!(ElementPlace, begin),
+        offset_of!(ElementPlace, len),
+        offset_of!(ElementPlace, id),
+        size_of::<ElementPlace>(),
+    ];
+    assert_eq!(element, [0, word, 2 * word, 3 * word]);
+    let block = [
+        offset_of!(BlockPlace, begin),
+        offset_of!(BlockPlace, len),
+        offset_of!(BlockPlace, timestamp_offset),
+        offset_of!(BlockPlace, payload_type),
+        size_of::<BlockPlace>(),
+    ];
+    assert_eq!(block, [0, word, 2 * word, 2 * word + 2, 3 * word]);
     let report = [
         offset_of!(Report, ssrc),
         offset_of!(Report, lost),

@@ -110,6 +110,9 @@ pub extern "C" fn h26x_strerror(code: u32) -> *const c_char {
         71 => c"more aspect ratios are supported than understood",
         72 => c"parameter sets of levels are used where all go in band",
         73 => c"types of hashes are no list of numbers up to 255",
+        74 => c"a level has no parameter sets",
+        75 => c"no element of the header extension is left",
+        76 => c"an element passes the end of the header extension",
         _ => c"unknown code",
     };
     text.as_ptr()

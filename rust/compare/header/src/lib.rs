@@ -74,12 +74,24 @@ pub struct Unit {
 /// The code of a call whose output doesn't fit.
 pub const NO_ROOM: u32 = 13;
 
+/// A stream from one end to another.
+#[repr(C)]
+#[derive(Debug, Clone, Copy, Default)]
+pub struct Stream {
+    pub level: u64,
+    pub mode: u64,
+    pub sets: u32,
+    pub is_there: bool,
+    pub has_mode: bool,
+}
+
 unsafe extern "C" {
     pub fn h26x_packetizer_new(codec: u32, numbers: bool, made: *mut Raw) -> u32;
     pub fn h26x_packetizer_clone(p: *const Raw, made: *mut Raw) -> u32;
     pub fn h26x_packetizer_free(p: Raw);
     pub fn h26x_packetizer_set_numbers(p: *mut Raw, numbers: bool) -> u32;
     pub fn h26x_packetizer_set_max_size(p: *mut Raw, bytes: u16) -> u32;
+    pub fn h26x_packetizer_set_lowest_header(p: *mut Raw, lowest: bool) -> u32;
     pub fn h26x_packetize(
         p: *mut Raw,
         mtu: usize,
@@ -274,6 +286,20 @@ unsafe extern "C" {
         any_order: bool,
         made: *mut Raw,
     ) -> u32;
+    pub fn h26x_sdp_answer_with(
+        offered: *const Raw,
+        ours: *const Raw,
+        options: u32,
+        made: *mut Raw,
+    ) -> u32;
+    pub fn h26x_sdp_agreed(
+        own: *const Raw,
+        other: *const Raw,
+        options: u32,
+        sends: *mut Stream,
+        receives: *mut Stream,
+    ) -> u32;
+    pub fn h26x_sdp_accepts_declared(declared: *const Raw, ours: *const Raw, options: u32) -> u32;
     pub fn h26x_sdp_set(
         h: *mut Raw,
         name: *const u8,

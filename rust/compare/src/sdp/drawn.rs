@@ -20,9 +20,9 @@ max-dpb 8 148 149 337 338 890 891 1781 1782 3037 3038 6749 6750 7679 7680 12287 
 max-br 8 63 64 127 128 191 192 383 384 767 768 1999 2000 3999 4000 9999 10000 13999 14000 19999 20000 49999 50000 \
     134999 135000 239999 240000 479999 480000 799999 800000
 redundant-pic-cap 3 0 1
-sprop-parameter-sets 20 Z0IACpZTBYmI,aMljiA== Z0LgH4xo,aM48gA==
-sprop-level-parameter-sets 6 42e00a:Z0LgCoxo,aM48gA==
-use-level-src-parameter-sets 10 0 1
+sprop-parameter-sets 30 Z0IACpZTBYmI,aMljiA== Z0LgH4xo,aM48gA==
+sprop-level-parameter-sets 20 42e00a:Z0LgCoxo,aM48gA==
+use-level-src-parameter-sets 30 0 1 1
 in-band-parameter-sets 10 0 1
 level-asymmetry-allowed 70 0 1 1 1
 packetization-mode 85 0 1 1 1 1 2
@@ -155,7 +155,21 @@ impl Table {
     pub fn format(&self, random: &mut Random) -> Values {
         let mut values = [None; 30];
         (0..self.0.len()).for_each(|row| values[row] = self.value(row, random));
+        self.tell_order(&mut values, random);
         values
+    }
+
+    /// Of H.264 mode 2 mostly tells what it has to, and the other modes nothing of it.
+    fn tell_order(&self, values: &mut Values, random: &mut Random) {
+        const MODE: usize = 14;
+        if self.0[MODE].name != "packetization-mode" || random.one_in(4) {
+            return;
+        }
+        let is_interleaved = values[MODE] == Some("2");
+        for row in [15, 16, 17, 18, 19] {
+            let is_told = is_interleaved && (row < 18 || random.one_in(4));
+            values[row] = is_told.then(|| random.of(&self.0[row].values));
+        }
     }
 
     /// A few of the rows, each as often as another.

@@ -1,35 +1,35 @@
-//! Which answers of H.264 there are, read plainly (RFC 6184, 8.1 and 8.2.2; of WebRTC's peers libwebrtc's
-//! h264_profile_level_id.cc).
+//! Which answers of H.264 there are, what is agreed, and which declared formats are received, read plainly (RFC 6184, 8.1,
+//! 8.2.2 with its table 6, and 8.2.3; of WebRTC's peers libwebrtc's h264_profile_level_id.cc).
 
-use super::reading::{Format, Kind::*, Row, Rules, rows};
+use super::reading::{Format, Kind::*, Row, Rules, Stream, Way, rows};
 
 const ANY: u64 = u64::MAX;
 const WORD: u64 = u32::MAX as u64;
 
 rows! {
-    PROFILE_LEVEL_ID "profile-level-id" Digits(6), Some("42000a");
-    MAX_RECV_LEVEL "max-recv-level" Digits(4), None;
-    MAX_MBPS "max-mbps" Number(0, ANY), None;
-    MAX_SMBPS "max-smbps" Number(0, ANY), None;
-    MAX_FS "max-fs" Number(0, ANY), None;
-    MAX_CPB "max-cpb" Number(0, ANY), None;
-    MAX_DPB "max-dpb" Number(0, ANY), None;
-    MAX_BR "max-br" Number(0, ANY), None;
-    REDUNDANT_PIC_CAP "redundant-pic-cap" Number(0, 1), Some("0");
-    SETS "sprop-parameter-sets" Text, None;
-    LEVEL_SETS "sprop-level-parameter-sets" Text, None;
-    USE_LEVEL_SETS "use-level-src-parameter-sets" Number(0, 1), Some("0");
-    IN_BAND "in-band-parameter-sets" Number(0, 1), None;
-    ASYMMETRY "level-asymmetry-allowed" Number(0, 1), Some("0");
-    MODE "packetization-mode" Number(0, 2), Some("0");
-    DEPTH "sprop-interleaving-depth" Number(0, 32767), None;
-    NEED "sprop-deint-buf-req" Number(0, WORD), None;
-    ROOM "deint-buf-cap" Number(0, WORD), Some("0");
-    INIT_TIME "sprop-init-buf-time" Number(0, WORD), None;
-    DON_DIFF "sprop-max-don-diff" Number(0, 32767), None;
-    MAX_RCMD "max-rcmd-nalu-size" Number(0, WORD), None;
-    SAR_UNDERSTOOD "sar-understood" Number(0, 254), Some("13");
-    SAR_SUPPORTED "sar-supported" Number(1, 255), None;
+    PROFILE_LEVEL_ID "profile-level-id" "CCP" Digits(6), Some("42000a");
+    MAX_RECV_LEVEL "max-recv-level" "RR-" Digits(4), None;
+    MAX_MBPS "max-mbps" "RR-" Number(0, ANY), None;
+    MAX_SMBPS "max-smbps" "RR-" Number(0, ANY), None;
+    MAX_FS "max-fs" "RR-" Number(0, ANY), None;
+    MAX_CPB "max-cpb" "RR-" Number(0, ANY), None;
+    MAX_DPB "max-dpb" "RR-" Number(0, ANY), None;
+    MAX_BR "max-br" "RR-" Number(0, ANY), None;
+    REDUNDANT_PIC_CAP "redundant-pic-cap" "RR-" Number(0, 1), Some("0");
+    SETS "sprop-parameter-sets" "S-S" Text, None;
+    LEVEL_SETS "sprop-level-parameter-sets" "S-S" Text, None;
+    USE_LEVEL_SETS "use-level-src-parameter-sets" "RR-" Number(0, 1), Some("0");
+    IN_BAND "in-band-parameter-sets" "RR-" Number(0, 1), None;
+    ASYMMETRY "level-asymmetry-allowed" "O--" Number(0, 1), Some("0");
+    MODE "packetization-mode" "CCP" Number(0, 2), Some("0");
+    DEPTH "sprop-interleaving-depth" "P-P" Number(0, 32767), None;
+    NEED "sprop-deint-buf-req" "P-P" Number(0, WORD), None;
+    ROOM "deint-buf-cap" "RR-" Number(0, WORD), Some("0");
+    INIT_TIME "sprop-init-buf-time" "P-P" Number(0, WORD), None;
+    DON_DIFF "sprop-max-don-diff" "P-P" Number(0, 32767), None;
+    MAX_RCMD "max-rcmd-nalu-size" "RR-" Number(0, WORD), None;
+    SAR_UNDERSTOOD "sar-understood" "RR-" Number(0, 254), Some("13");
+    SAR_SUPPORTED "sar-supported" "RR-" Number(1, 255), None;
 }
 
 /// Table 5, with Constrained High of Rec. ITU-T H.264, A.2.4.2: profile, profile_idc, profile-iop bit by bit.
@@ -112,9 +112,10 @@ impl Id {
         Id { idc, iop, level }
     }
 
-    /// Whether the standard has the profile and the level.
+    /// Whether the standard has the profile and the level, which 9 names in profiles without a flag alone.
     fn is_known(self) -> bool {
-        PROFILE_IDCS.contains(&self.idc) && limits(self.level()).is_some()
+        let is_named = self.level != 9 || !self.has_flag();
+        PROFILE_IDCS.contains(&self.idc) && is_named && limits(self.level()).is_some()
     }
 
     /// Of Baseline, Main and Extended level 1b is level_idc 11 with constraint_set3_flag, which is of no profile.
@@ -212,7 +213,8 @@ fn id_text(theirs: Id, ours: Id) -> String {
     format!("{:02x}{iop:02x}{level:02x}", theirs.idc)
 }
 
-/// The answer, whose profile and level are written into the room where neither end said them so.
+/// The answer to what is heard of an offer by what is heard of ours; its profile and level are written into the room where
+/// neither end said them so.
 pub fn answer<'a>(
     offer: &Format<'a>,
     own: &Format<'a>,
@@ -220,15 +222,18 @@ pub fn answer<'a>(
     room: &'a mut String,
 ) -> Option<Format<'a>> {
     let (theirs, ours) = (Id::of(offer, rules), Id::of(own, rules));
+    // Who receives puts in order what the other sends.
+    let can_receive = rules.way == Way::Sends || can_order(offer, own);
+    let can_send = rules.way == Way::Receives || can_order(own, offer);
     let is_interleaved = offer.number(MODE) == 2;
-    let has_order =
-        !is_interleaved || rules.any_order && can_order(offer, own) && can_order(own, offer);
-    let is_one = theirs.is_taken_by(ours, rules) && offer.agrees(own, &[MODE]);
-    if !(theirs.is_known() && is_allowed(own, rules) && is_one && has_order) {
+    let has_order = !is_interleaved || rules.any_order && can_receive && can_send;
+    let keeps_level = !rules.multicast || ours.level() >= theirs.level();
+    let is_one = theirs.is_taken_by(ours, rules) && offer.agrees(own, &[MODE]) && keeps_level;
+    if !(theirs.is_known() && is_one && has_order) {
         return None;
     }
-    // One level, the lower, or where both ends allow it our own for what we receive.
-    let both = offer.number(ASYMMETRY) == 1 && own.number(ASYMMETRY) == 1;
+    // One level, the lower (in multicast the offer's), or where both ends allow it our own for what we receive.
+    let both = !rules.multicast && offer.number(ASYMMETRY) == 1 && own.number(ASYMMETRY) == 1;
     let (low, high) = (theirs.level(), ours.level());
     let level = if both { high } else { low.min(high) };
     let sent = if both { highest(offer, low) } else { level };
@@ -241,13 +246,53 @@ pub fn answer<'a>(
     if !both {
         answer.take_away(&[ASYMMETRY]);
     }
-    // Parameter sets are of the level that is sent, unless the offer wants them in band.
-    let in_band = offer.number(IN_BAND) == 1;
-    if in_band || sent != level || level != high {
+    // Parameter sets are of the level that is sent and of the offered profile, unless the offer wants them in band.
+    let is_untold = offer.number(IN_BAND) == 1 || theirs.profile() != ours.profile();
+    if is_untold || sent != level || level != high {
         answer.take_away(&[SETS]);
     }
-    if in_band || sent == level || offer.number(USE_LEVEL_SETS) != 1 {
+    if is_untold || sent == level || offer.number(USE_LEVEL_SETS) != 1 {
         answer.take_away(&[LEVEL_SETS]);
     }
     Some(answer)
+}
+
+/// The stream that one end sends and another receives.
+pub fn stream(sender: &Format, receiver: &Format, rules: Rules) -> Stream {
+    let levels = [sender, receiver].map(|it| Id::of(it, rules).level());
+    let is_asymmetric = |it: &Format| it.number(ASYMMETRY) == 1;
+    let level = if rules.way == Way::Both && is_asymmetric(sender) && is_asymmetric(receiver) {
+        highest(receiver, levels[1])
+    } else {
+        levels[0].min(levels[1])
+    };
+    let is_own_level = level == levels[0];
+    let uses_other_levels = receiver.number(USE_LEVEL_SETS) == 1;
+    let sets = if receiver.number(IN_BAND) == 1 {
+        "in band"
+    } else if is_own_level && sender.gives(&[SETS]) {
+        "told"
+    } else if !is_own_level && uses_other_levels && sender.gives(&[LEVEL_SETS]) {
+        "told of level"
+    } else {
+        "in band"
+    };
+    Stream {
+        level: (2. * level) as u64,
+        mode: Some(sender.number(MODE)),
+        sets,
+    }
+}
+
+/// Whether an end receives what is declared as it is.
+pub fn accepts(declared: &Format, own: &Format, rules: Rules) -> bool {
+    let (theirs, ours) = (Id::of(declared, rules), Id::of(own, rules));
+    let is_interleaved = declared.number(MODE) == 2;
+    let has_order = !is_interleaved || rules.any_order && can_order(declared, own);
+    theirs.is_known()
+        && is_allowed(own, rules)
+        && theirs.is_taken_by(ours, rules)
+        && declared.agrees(own, &[MODE])
+        && theirs.level() <= highest(own, ours.level())
+        && has_order
 }

@@ -1,42 +1,42 @@
-//! Which answers of H.265 there are, read plainly (RFC 7798, 7.1 and 7.2.2; of WebRTC's peers libwebrtc's
-//! codec_comparators.cc).
+//! Which answers of H.265 there are, what is agreed, and which declared formats are received, read plainly (RFC 7798, 7.1,
+//! 7.2.2 with its table 1, and 7.2.3; of WebRTC's peers libwebrtc's codec_comparators.cc).
 
-use super::reading::{Format, Kind::*, Row, Rules, fault, rows};
+use super::reading::{Format, Kind::*, Row, Rules, Stream, fault, rows};
 
 const ANY: u64 = u64::MAX;
 const WORD: u64 = u32::MAX as u64;
 
 rows! {
-    SPACE "profile-space" Number(0, 3), Some("0");
-    PROFILE "profile-id" Number(0, 31), Some("1");
-    TIER "tier-flag" Number(0, 1), Some("0");
-    LEVEL "level-id" Number(0, 255), Some("93");
-    CONSTRAINTS "interop-constraints" Digits(12), Some("B00000000000");
-    COMPATIBLE "profile-compatibility-indicator" Digits(8), None;
-    SENT_SUB_LAYER "sprop-sub-layer-id" Number(0, 6), Some("6");
-    SUB_LAYER "recv-sub-layer-id" Number(0, 6), None;
-    HIGHEST "max-recv-level-id" Number(0, 255), None;
-    MODE "tx-mode" Mode, Some("SRST");
-    VPS "sprop-vps" Text, None;
-    SPS "sprop-sps" Text, None;
-    PPS "sprop-pps" Text, None;
-    SEI "sprop-sei" Text, None;
-    MAX_LSR "max-lsr" Number(0, ANY), None;
-    MAX_LPS "max-lps" Number(0, WORD), None;
-    MAX_CPB "max-cpb" Number(0, ANY), None;
-    MAX_DPB "max-dpb" Number(1, 16), Some("6");
-    MAX_BR "max-br" Number(0, ANY), None;
-    MAX_TR "max-tr" Number(0, ANY), None;
-    MAX_TC "max-tc" Number(0, ANY), None;
-    MAX_FPS "max-fps" Number(0, ANY), None;
-    DON_DIFF "sprop-max-don-diff" Number(0, 32767), Some("0");
-    UNITS "sprop-depack-buf-nalus" Number(0, 32767), Some("0");
-    NEED "sprop-depack-buf-bytes" Number(0, WORD), Some("0");
-    ROOM "depack-buf-cap" Number(1, WORD), Some("4294967295");
-    SEGMENTATION "sprop-segmentation-id" Number(0, 3), Some("0");
-    SPATIAL "sprop-spatial-segmentation-idc" Hexadecimal(4095), None;
-    POINTS "dec-parallel-cap" Text, None;
-    DPH "include-dph" Text, None;
+    SPACE "profile-space" "CCP" Number(0, 3), Some("0");
+    PROFILE "profile-id" "CCP" Number(0, 31), Some("1");
+    TIER "tier-flag" "CCP" Number(0, 1), Some("0");
+    LEVEL "level-id" "DDP" Number(0, 255), Some("93");
+    CONSTRAINTS "interop-constraints" "CCP" Digits(12), Some("B00000000000");
+    COMPATIBLE "profile-compatibility-indicator" "CCP" Digits(8), None;
+    SENT_SUB_LAYER "sprop-sub-layer-id" "P-P" Number(0, 6), Some("6");
+    SUB_LAYER "recv-sub-layer-id" "OO-" Number(0, 6), None;
+    HIGHEST "max-recv-level-id" "RR-" Number(0, 255), None;
+    MODE "tx-mode" "CCP" Mode, Some("SRST");
+    VPS "sprop-vps" "P-P" Text, None;
+    SPS "sprop-sps" "P-P" Text, None;
+    PPS "sprop-pps" "P-P" Text, None;
+    SEI "sprop-sei" "P-P" Text, None;
+    MAX_LSR "max-lsr" "RR-" Number(0, ANY), None;
+    MAX_LPS "max-lps" "RR-" Number(0, WORD), None;
+    MAX_CPB "max-cpb" "RR-" Number(0, ANY), None;
+    MAX_DPB "max-dpb" "RR-" Number(1, 16), Some("6");
+    MAX_BR "max-br" "RR-" Number(0, ANY), None;
+    MAX_TR "max-tr" "RR-" Number(0, ANY), None;
+    MAX_TC "max-tc" "RR-" Number(0, ANY), None;
+    MAX_FPS "max-fps" "RR-" Number(0, ANY), None;
+    DON_DIFF "sprop-max-don-diff" "P-P" Number(0, 32767), Some("0");
+    UNITS "sprop-depack-buf-nalus" "P-P" Number(0, 32767), Some("0");
+    NEED "sprop-depack-buf-bytes" "P-P" Number(0, WORD), Some("0");
+    ROOM "depack-buf-cap" "RR-" Number(1, WORD), Some("4294967295");
+    SEGMENTATION "sprop-segmentation-id" "P-P" Number(0, 3), Some("0");
+    SPATIAL "sprop-spatial-segmentation-idc" "P-P" Hexadecimal(4095), None;
+    POINTS "dec-parallel-cap" "RR-" Text, None;
+    DPH "include-dph" "RR-" Text, None;
 }
 
 /// Rec. ITU-T H.265, tables A.8 and A.9: 30 times the level, MaxLumaSr, MaxLumaPs, MaxTileRows, MaxTileCols, MaxCPB of the
@@ -116,17 +116,24 @@ fn can_order(sender: &Format, receiver: &Format, rules: Rules) -> bool {
     sender.number(DON_DIFF) == 0 || rules.any_order && is_held
 }
 
-pub fn answer<'a>(offer: &Format<'a>, own: &Format<'a>, rules: Rules) -> Option<Format<'a>> {
-    let configuration = [SPACE, PROFILE, TIER, MODE];
+const CONFIGURATION: [usize; 4] = [SPACE, PROFILE, TIER, MODE];
+
+/// Whether two formats are of one configuration but for the level.
+fn is_one(theirs: &Format, own: &Format, rules: Rules) -> bool {
     let constraints = [CONSTRAINTS];
-    let is_one = offer.agrees(own, &configuration)
-        && (rules.webrtc || offer.agrees(own, &constraints) && flags(offer) == flags(own));
+    theirs.agrees(own, &CONFIGURATION)
+        && (rules.webrtc || theirs.agrees(own, &constraints) && flags(theirs) == flags(own))
+}
+
+/// The answer to what is heard of an offer by what is heard of ours.
+pub fn answer<'a>(offer: &Format<'a>, own: &Format<'a>, rules: Rules) -> Option<Format<'a>> {
+    let keeps_level = !rules.multicast || own.number(LEVEL) >= offer.number(LEVEL);
     let has_order = can_order(offer, own, rules) && can_order(own, offer, rules);
-    if !(is_known(offer) && is_allowed(own, rules) && is_one && has_order) {
+    if !(is_known(offer) && is_one(offer, own, rules) && keeps_level && has_order) {
         return None;
     }
     let mut answer = own.clone();
-    answer.take_from(offer, &configuration);
+    answer.take_from(offer, &CONFIGURATION);
     answer.take_from(offer, &[CONSTRAINTS, COMPATIBLE]);
     answer.take_away(&[SUB_LAYER]);
     super::lower_levels(offer, own, &mut answer, [LEVEL, HIGHEST]);
@@ -134,4 +141,23 @@ pub fn answer<'a>(offer: &Format<'a>, own: &Format<'a>, rules: Rules) -> Option<
         answer.take_away(&[VPS, SPS, PPS]);
     }
     Some(answer)
+}
+
+/// The stream that one end sends and another receives.
+pub fn stream(sender: &Format, receiver: &Format) -> Stream {
+    let are_told = sender.gives(&[VPS, SPS, PPS]);
+    Stream {
+        level: highest(receiver),
+        mode: None,
+        sets: if are_told { "told" } else { "in band" },
+    }
+}
+
+/// Whether an end receives what is declared as it is.
+pub fn accepts(declared: &Format, own: &Format, rules: Rules) -> bool {
+    is_known(declared)
+        && is_allowed(own, rules)
+        && is_one(declared, own, rules)
+        && declared.number(LEVEL) <= highest(own)
+        && can_order(declared, own, rules)
 }

@@ -1,31 +1,32 @@
-//! Which answers of H.266 there are, read plainly (RFC 9328, 7.2 and 7.3.2).
+//! Which answers of H.266 there are, what is agreed, and which declared formats are received, read plainly (RFC 9328, 7.2,
+//! 7.3.2 with its figure 11, and 7.3.3).
 
-use super::reading::{Format, Kind::*, Row, Rules, rows};
+use super::reading::{Format, Kind::*, Row, Rules, Stream, rows};
 
 const ANY: u64 = u64::MAX;
 const WORD: u64 = u32::MAX as u64;
 
 rows! {
-    PROFILE "profile-id" Number(0, 127), Some("1");
-    TIER "tier-flag" Number(0, 1), Some("0");
-    SUB_PROFILE "sub-profile-id" Text, None;
-    CONSTRAINTS "interop-constraints" Text, Some("gA==");
-    LEVEL "level-id" Number(0, 255), Some("51");
-    SENT_SUBLAYER "sprop-sublayer-id" Number(0, 6), Some("6");
-    SENT_OLS "sprop-ols-id" Number(0, 256), None;
-    SUBLAYER "recv-sublayer-id" Number(0, 6), None;
-    OLS "recv-ols-id" Number(0, 256), None;
-    HIGHEST "max-recv-level-id" Number(0, 255), None;
-    DCI "sprop-dci" Text, None;
-    VPS "sprop-vps" Text, None;
-    SPS "sprop-sps" Text, None;
-    PPS "sprop-pps" Text, None;
-    SEI "sprop-sei" Text, None;
-    MAX_LSR "max-lsr" Number(0, ANY), None;
-    MAX_FPS "max-fps" Number(0, ANY), None;
-    DON_DIFF "sprop-max-don-diff" Number(0, 32767), Some("0");
-    NEED "sprop-depack-buf-bytes" Number(0, WORD), Some("0");
-    ROOM "depack-buf-cap" Number(1, WORD), Some("4294967295");
+    PROFILE "profile-id" "CCP" Number(0, 127), Some("1");
+    TIER "tier-flag" "CCP" Number(0, 1), Some("0");
+    SUB_PROFILE "sub-profile-id" "CCP" Text, None;
+    CONSTRAINTS "interop-constraints" "CCP" Text, Some("gA==");
+    LEVEL "level-id" "DDP" Number(0, 255), Some("51");
+    SENT_SUBLAYER "sprop-sublayer-id" "P-P" Number(0, 6), Some("6");
+    SENT_OLS "sprop-ols-id" "P-P" Number(0, 256), None;
+    SUBLAYER "recv-sublayer-id" "OO-" Number(0, 6), None;
+    OLS "recv-ols-id" "OO-" Number(0, 256), None;
+    HIGHEST "max-recv-level-id" "RR-" Number(0, 255), None;
+    DCI "sprop-dci" "P-P" Text, None;
+    VPS "sprop-vps" "P-P" Text, None;
+    SPS "sprop-sps" "P-P" Text, None;
+    PPS "sprop-pps" "P-P" Text, None;
+    SEI "sprop-sei" "P-P" Text, None;
+    MAX_LSR "max-lsr" "RR-" Number(0, ANY), None;
+    MAX_FPS "max-fps" "RR-" Number(0, ANY), None;
+    DON_DIFF "sprop-max-don-diff" "P-P" Number(0, 32767), Some("0");
+    NEED "sprop-depack-buf-bytes" "P-P" Number(0, WORD), Some("0");
+    ROOM "depack-buf-cap" "RR-" Number(1, WORD), Some("4294967295");
 }
 
 /// Rec. ITU-T H.266, annex A: profiles of one layer, those of several; 16 times the level's
@@ -75,18 +76,18 @@ fn can_order(sender: &Format, receiver: &Format, rules: Rules) -> bool {
     sender.number(DON_DIFF) == 0 || rules.any_order && is_held
 }
 
+const CONFIGURATION: [usize; 4] = [PROFILE, TIER, SUB_PROFILE, CONSTRAINTS];
+
+/// The answer to what is heard of an offer by what is heard of ours.
 pub fn answer<'a>(offer: &Format<'a>, own: &Format<'a>, rules: Rules) -> Option<Format<'a>> {
-    let configuration = [PROFILE, TIER, SUB_PROFILE, CONSTRAINTS];
+    let is_one = offer.agrees(own, &CONFIGURATION);
+    let keeps_level = !rules.multicast || own.number(LEVEL) >= offer.number(LEVEL);
     let has_order = can_order(offer, own, rules) && can_order(own, offer, rules);
-    if !(is_known(offer)
-        && is_allowed(own, rules)
-        && offer.agrees(own, &configuration)
-        && has_order)
-    {
+    if !(is_known(offer) && is_one && keeps_level && has_order) {
         return None;
     }
     let mut answer = own.clone();
-    answer.take_from(offer, &configuration);
+    answer.take_from(offer, &CONFIGURATION);
     answer.take_away(&[SUBLAYER, OLS]);
     super::lower_levels(offer, own, &mut answer, [LEVEL, HIGHEST]);
     if own.number(LEVEL) > offer.number(LEVEL) {
@@ -96,4 +97,29 @@ pub fn answer<'a>(offer: &Format<'a>, own: &Format<'a>, rules: Rules) -> Option<
     let has_layers = LAYERS.contains(&offer.number(PROFILE));
     let vps = VPS;
     (!has_layers || answer.given(vps) == offer.given(vps)).then_some(answer)
+}
+
+/// The highest level that an end receives.
+fn highest(it: &Format) -> u64 {
+    let level = it.number(LEVEL);
+    level.max(it.given_number(HIGHEST).unwrap_or(0))
+}
+
+/// The stream that one end sends and another receives; a VPS is of streams with layers alone.
+pub fn stream(sender: &Format, receiver: &Format) -> Stream {
+    let are_told = sender.gives(&[SPS, PPS]);
+    Stream {
+        level: highest(receiver),
+        mode: None,
+        sets: if are_told { "told" } else { "in band" },
+    }
+}
+
+/// Whether an end receives what is declared as it is.
+pub fn accepts(declared: &Format, own: &Format, rules: Rules) -> bool {
+    is_known(declared)
+        && is_allowed(own, rules)
+        && declared.agrees(own, &CONFIGURATION)
+        && declared.number(LEVEL) <= highest(own)
+        && can_order(declared, own, rules)
 }

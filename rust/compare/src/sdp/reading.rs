@@ -1,5 +1,7 @@
 //! Format parameters of SDP read plainly, by a table of what the RFC registers (RFC 6184, 8.1; RFC 7798, 7.1; RFC 9328, 7.2).
 
+use crate::random::Random;
+
 /// What a value may be.
 #[derive(Clone, Copy)]
 pub enum Kind {
@@ -15,20 +17,44 @@ pub enum Kind {
     Text,
 }
 
-/// A parameter, and its value where it is absent.
+/// Which way media flows, of who writes a format: the columns of the RFCs' tables.
+#[derive(Clone, Copy, Debug, PartialEq)]
+pub enum Way {
+    Both,
+    Receives,
+    Sends,
+}
+
+impl Way {
+    /// That of the other end.
+    pub fn of_other(self) -> Self {
+        match self {
+            Way::Both => Way::Both,
+            Way::Receives => Way::Sends,
+            Way::Sends => Way::Receives,
+        }
+    }
+}
+
+/// A parameter, what it is in an offer or answer that is sendrecv, recvonly or sendonly, by a letter each as the RFC's table
+/// has it (`-` of what is to be ignored), and its value where it is absent.
 pub struct Row {
     pub name: &'static str,
+    pub columns: &'static str,
     pub kind: Kind,
     pub unsaid: Option<&'static str>,
 }
 
-/// Declares the parameters of a codec in the order of the RFC, `PLACE "name" Kind, value where absent;`, and their places.
+/// Declares the parameters of a codec in the order of the RFC, `PLACE "name" "columns" Kind, value where absent;`, and
+/// their places.
 macro_rules! rows {
-    ($($row:ident $name:literal $kind:expr, $unsaid:expr;)*) => {
+    ($($row:ident $name:literal $columns:literal $kind:expr, $unsaid:expr;)*) => {
         #[allow(non_camel_case_types, clippy::upper_case_acronyms, dead_code)] // of most only what they may be is said
         enum Place { $($row),* }
         $(#[allow(dead_code)] const $row: usize = Place::$row as usize;)*
-        pub const ROWS: &[Row] = &[$(Row { name: $name, kind: $kind, unsaid: $unsaid }),*];
+        pub const ROWS: &[Row] = &[
+            $(Row { name: $name, columns: $columns, kind: $kind, unsaid: $unsaid }),*
+        ];
     };
 }
 pub(super) use rows;
@@ -129,15 +155,14 @@ impl<'a> Format<'a> {
     }
 
     /// Writes it: what the table has in its order, and the others behind.
-    pub fn text(&self) -> String {
-        let mut to = String::with_capacity(120);
+    pub fn write(&self, to: &mut String) {
+        to.clear();
         let given = self.rows.iter().zip(self.values);
         let given = given.filter_map(|(row, value)| Some((row.name, value?)));
         for (name, value) in given.chain(self.others.iter().copied()) {
             let between = if to.is_empty() { "" } else { ";" };
             to.extend([between, name, "=", value]);
         }
-        to
     }
 
     /// What the table doesn't have.
@@ -180,6 +205,22 @@ impl<'a> Format<'a> {
         rows.iter().for_each(|row| self.put(*row, None));
     }
 
+    /// Takes away what is to be ignored in a direction of who writes it.
+    pub fn ignore(&mut self, way: Way) {
+        for (row, value) in self.rows.iter().zip(&mut self.values) {
+            if row.columns.as_bytes()[way as usize] == b'-' {
+                *value = None;
+            }
+        }
+    }
+
+    /// What is left of it in a direction.
+    pub fn heard(&self, way: Way) -> Self {
+        let mut it = self.clone();
+        it.ignore(way);
+        it
+    }
+
     /// Takes the values of another.
     pub fn take_from(&mut self, other: &Format<'a>, rows: &[usize]) {
         rows.iter()
@@ -205,9 +246,32 @@ fn number(text: &str) -> u64 {
     text.parse().expect("a number, as it was read")
 }
 
-/// By which rules, and what else an end can do.
+/// By which rules, what else an end can do, which way its media flow, and whether by multicast.
 #[derive(Clone, Copy, Debug)]
 pub struct Rules {
     pub webrtc: bool,
     pub any_order: bool,
+    pub way: Way,
+    pub multicast: bool,
+}
+
+impl Rules {
+    /// Those of the RFCs, of what else is drawn.
+    pub fn draw(random: &mut Random) -> Self {
+        Rules {
+            webrtc: false,
+            any_order: random.one_in(2),
+            way: random.of(&[Way::Both, Way::Receives, Way::Sends]),
+            multicast: random.one_in(4),
+        }
+    }
+}
+
+/// A stream that is agreed on: its level as a number (of H.264 twice its level_idc), its packetization mode, and where its
+/// parameter sets are.
+#[derive(Debug, PartialEq)]
+pub struct Stream {
+    pub level: u64,
+    pub mode: Option<u64>,
+    pub sets: &'static str,
 }

@@ -29,6 +29,43 @@ struct Sent {
     packet: Vec<u8>,
 }
 
+/// Makes the packets of a unit or a payload, in a list and in a buffer, and what they carry by the plan.
+fn make<P: Sending>(
+    plan: &mut Plan,
+    [listing, placing]: [&mut P; 2],
+    packets: &mut Packets,
+    input: &mut Input,
+) -> (Vec<Vec<u8>>, Vec<Item>) {
+    let is_unit = input.byte() & 1 != 0;
+    let mtu = match input.word() {
+        0xffff => usize::MAX,
+        other => other.into(),
+    };
+    let bytes = input.bytes();
+    let (list, planned) = if is_unit {
+        placing.make_unit_into(mtu, bytes, packets).expect("memory");
+        (listing.make_unit(mtu, bytes), plan.unit(mtu, bytes))
+    } else {
+        placing.make_into(mtu, bytes, packets).expect("memory");
+        (listing.packetize(mtu, bytes), plan.payload(mtu, bytes))
+    };
+    let list = list.expect("memory");
+    assert!(
+        packets.iter().eq(list.iter()),
+        "in a list and in a buffer they are the same"
+    );
+    let most = plan.limit(mtu).unwrap_or(0);
+    assert!(
+        list.iter()
+            .all(|packet| !packet.is_empty() && packet.len() <= most)
+    );
+    assert_eq!(
+        list.len(),
+        planned.iter().map(|item| item.packets).sum::<usize>()
+    );
+    (list, planned)
+}
+
 fn run_of<P: Sending, D: Taking>(settings: Settings, mut input: Input) {
     let (max_size, headroom) = (input.word(), usize::from(input.byte()));
     let mut plan = Plan::new(P::CODEC, settings.donl);
@@ -45,36 +82,13 @@ fn run_of<P: Sending, D: Taking>(settings: Settings, mut input: Input) {
     let mut packets = Packets::with_headroom(headroom);
     let (mut items, mut sent, mut number) = (Vec::new(), Vec::new(), 0_u16);
     while !input.is_empty() {
-        let is_unit = input.byte() & 1 != 0;
-        let mtu = match input.word() {
-            0xffff => usize::MAX,
-            other => other.into(),
-        };
-        let bytes = input.bytes();
-        let (list, planned) = if is_unit {
-            placing
-                .make_unit_into(mtu, bytes, &mut packets)
-                .expect("memory");
-            (listing.make_unit(mtu, bytes), plan.unit(mtu, bytes))
-        } else {
-            placing.make_into(mtu, bytes, &mut packets).expect("memory");
-            (listing.packetize(mtu, bytes), plan.payload(mtu, bytes))
-        };
-        let list = list.expect("memory");
-        assert!(
-            packets.iter().eq(list.iter()),
-            "in a list and in a buffer they are the same"
+        let (list, planned) = make(
+            &mut plan,
+            [&mut listing, &mut placing],
+            &mut packets,
+            &mut input,
         );
         check_buffer(&packets, headroom);
-        let most = plan.limit(mtu).unwrap_or(0);
-        assert!(
-            list.iter()
-                .all(|packet| !packet.is_empty() && packet.len() <= most)
-        );
-        assert_eq!(
-            list.len(),
-            planned.iter().map(|item| item.packets).sum::<usize>()
-        );
         let mut list = list.into_iter();
         for item in planned {
             let own: Vec<Vec<u8>> = list.by_ref().take(item.packets).collect();

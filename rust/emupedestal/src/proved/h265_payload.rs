@@ -11,6 +11,7 @@ mod every;
 mod lowest_header;
 mod packet;
 mod packetizer;
+mod sending;
 mod show;
 mod shows;
 mod spare;
@@ -23,7 +24,7 @@ pub use crate::proved::h265_packets::{
     H265AggregationPacket, H265AggregationUnit, H265AggregationUnitFirst,
     H265FragmentationUnitPacket, H265PACIPacket, H265Payload, H265SingleNALUnitPacket,
 };
-pub use codec::H265;
+pub use codec::{H265, H265Sending};
 pub use depacketizer::H265Depacketizer;
 pub use detect::detect_h265_keyframe;
 pub use lowest_header::set_lowest_header;

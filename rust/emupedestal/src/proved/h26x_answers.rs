@@ -11,6 +11,7 @@ mod direction;
 mod fault;
 
 pub use agreed::{Agreed, AgreedSets, AgreedStream, CodecStreams, agreed_streams};
+pub use answer::h264::sets_of_level;
 pub use answer::{AnswerConfig, AnswerRules, CodecRules, Format, Role, Terms, own_fault};
 pub(crate) use answer::{answer_format, answer_to};
 pub use declared::{CodecDeclared, accepts_declared};

@@ -4,10 +4,11 @@
 //! puts in that order, by their timestamps and markers (RFC 3550, 5.1).
 mod access_unit;
 mod answers;
+#[allow(dead_code, reason = "tests have it")]
 mod assemble;
 mod assembler;
 mod spare;
 
-pub use access_unit::{AccessUnit, OpenAccessUnit};
+pub use access_unit::{AccessUnit, OpenAccessUnit, UnitsSoFar};
 pub use assemble::assemble_all;
 pub use assembler::AccessUnitAssembler;

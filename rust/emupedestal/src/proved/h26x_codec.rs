@@ -3,6 +3,7 @@
 //! Which codecs there are, and the packetizers and depacketizers of a codec that is chosen when they
 //! are made, one type for all codecs.
 mod any_depacketizer;
+#[allow(dead_code, reason = "the C library has it")]
 mod any_packetizer;
 mod any_payload_depacketizer;
 mod codec;

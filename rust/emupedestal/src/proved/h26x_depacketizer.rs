@@ -10,6 +10,7 @@ mod extra;
 mod give_back;
 mod in_text;
 mod look;
+#[allow(dead_code, reason = "the C library has it")]
 mod memory;
 mod open_text;
 mod parts;

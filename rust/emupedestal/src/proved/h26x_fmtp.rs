@@ -1,11 +1,5 @@
 // Made from crates/h26x_fmtp/src/lib.rt by tools/to-rust.
 
-//! The grammar of an `a=fmtp` value of SDP that H.264, H.265 and H.266 share (RFC 6184, section 8;
-//! RFC 7798, section 7; RFC 9328, section 7): parameters, read and written by a table of them, the
-//! kinds of their values, NAL units in base64, and what stands in an `a=rtpmap` line.
-//!
-//! The definitions that contracts cite stand in `specs/`.
-mod cases;
 mod error;
 pub mod kind;
 mod names;

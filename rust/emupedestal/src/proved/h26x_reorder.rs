@@ -8,6 +8,7 @@ mod order;
 mod packet;
 mod parted;
 mod pushed;
+#[allow(dead_code, reason = "tests have it")]
 mod reorder;
 mod spare;
 

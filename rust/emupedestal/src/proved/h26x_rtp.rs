@@ -16,7 +16,7 @@ mod words;
 mod writing;
 
 pub use datagram::RtpDatagram;
-pub use elements::{ElementForm, RtpElement, RtpElements};
+pub use elements::{ElementForm, PlacedElement, RtpElement, RtpElementError, RtpElements};
 pub use error::{RtpError, RtpWriteError};
 pub use feedback::{FullIntraRequest, PictureLoss, ReceiverReport};
 pub use header::{RtpExtension, RtpHeader};

@@ -1,8 +1,5 @@
 // Made from crates/h26x_rtp_receiver/src/lib.rt by tools/to-rust.
 
-//! From datagrams to access units: the packets of one stream read of RTP, RTX (RFC 4588) and RED (RFC
-//! 2198), put in order, and what is asked of the sender.
-mod cases;
 mod keyframes;
 mod original;
 mod payload_types;

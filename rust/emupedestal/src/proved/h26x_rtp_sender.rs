@@ -3,6 +3,7 @@
 mod count;
 mod error;
 mod history;
+mod payloads;
 mod sender;
 mod sent;
 mod stream;
@@ -10,5 +11,6 @@ mod unit;
 
 pub use count::SentCount;
 pub use error::RtpSendError;
+pub use payloads::are_in_memory;
 pub use sender::RtpSender;
 pub use stream::RtpStream;

@@ -6,7 +6,6 @@
 //!
 //! The definitions that contracts cite stand in `specs/`.
 mod capability_points;
-mod cases;
 mod codec;
 mod constraints;
 mod error;

@@ -3,6 +3,7 @@
 use super::getters::getters;
 use super::{CodecParameters, H264Parameter, LevelSets, LevelSetsError, PacketizationMode};
 use crate::H264ProfileLevel;
+use crate::proved::h26x_answers::sets_of_level;
 use alloc::vec::Vec;
 
 /// The format parameters of H.264 (RFC 6184, section 8.1).
@@ -70,6 +71,27 @@ impl CodecParameters<H264Parameter> {
     /// The first that is none is told by its place.
     pub fn sprop_level_parameter_sets(&self) -> Result<Vec<LevelSets>, LevelSetsError> {
         Ok(self.of.level_sets()?.unwrap_or_default())
+    }
+
+    /// The parameter sets of `sprop-level-parameter-sets` that are of a level, as the `level` of an
+    /// [`AgreedStream`](super::AgreedStream) has it: the first of that level; `None` where there is none.
+    ///
+    /// ```
+    /// use emupedestal::sdp::H264Parameters;
+    ///
+    /// let line = "profile-level-id=42e01f;sprop-level-parameter-sets=42e00b:Z0LgCw==:42f00b:aMs=";
+    /// let format: H264Parameters = line.parse()?;
+    /// assert_eq!(format.sets_of_level(21)?, Some(vec![vec![0x68, 0xcb]])); // level 1b
+    /// assert_eq!(format.sets_of_level(62)?, None);
+    /// # Ok::<(), Box<dyn std::error::Error>>(())
+    /// ```
+    ///
+    /// # Errors
+    ///
+    /// The first that is none is told by its place, of any level.
+    pub fn sets_of_level(&self, level: u64) -> Result<Option<Vec<Vec<u8>>>, LevelSetsError> {
+        let levels = self.sprop_level_parameter_sets()?;
+        Ok(sets_of_level(&levels, level).map(|it| it.sets.clone()))
     }
 
     /// `in-band-parameter-sets`: true where parameter sets outside the stream are discarded, false where they are

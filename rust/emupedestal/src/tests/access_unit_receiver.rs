@@ -65,6 +65,36 @@ fn told(units: &[ReceivedAccessUnit]) -> Vec<(u32, u16, u16, u32, bool, bool)> {
 }
 
 #[test]
+fn units_before_their_access_unit_has_ended() {
+    let mut it = receiver(8, u32::MAX);
+    let so_far = |it: &AccessUnitReceiver| it.units_so_far().map(|units| units.bytes.to_vec());
+    assert_eq!(so_far(&it), None);
+    for (packet, wanted) in [
+        ((7, 3000, false, "7c858802"), ""),
+        ((8, 3000, false, "7c450506"), "00000001 6588020506"),
+        (
+            (9, 3000, false, "6540"),
+            "00000001 6588020506 00000001 6540",
+        ),
+    ] {
+        push(&mut it, 0, packet).unwrap();
+        assert!(units(&mut it, 0).is_empty());
+        assert_eq!(so_far(&it), Some(bytes(wanted)));
+    }
+    let told = it.units_so_far().unwrap();
+    let key = CodecExtra::H264(H264CodecExtra { is_keyframe: true });
+    assert_eq!((told.timestamp, told.extra), (3000, key));
+    // One that has ended is given out before the next is shown.
+    push(&mut it, 0, (10, 6000, false, "6101")).unwrap();
+    assert_eq!(so_far(&it), None);
+    let unit = it.next(0).unwrap().unwrap();
+    assert_eq!(unit.bytes, bytes("00000001 6588020506 00000001 6540"));
+    assert_eq!(so_far(&it), Some(bytes("00000001 6101")));
+    it.restart();
+    assert_eq!(so_far(&it), None);
+}
+
+#[test]
 fn packets_in_any_order_across_the_end_of_numbers() {
     let mut it = receiver(2, u32::MAX);
     for packet in [
@@ -331,6 +361,27 @@ fn draw(state: &mut u64) -> u64 {
     *state
 }
 
+/// A packet at about a place, up to five places behind it: its number says what it is.
+fn drawn_packet(state: &mut u64, place: u16) -> RtpPacket<'static> {
+    let jump = (draw(state) % 6) as u16;
+    let sequence = 65500u16.wrapping_add(place).wrapping_sub(jump);
+    let of = u64::from(sequence).wrapping_mul(0x9e37_79b9) >> 3;
+    let payloads: [&[u8]; 6] = [
+        &[0x61, 1],
+        &[0x7c, 0x81, 2],
+        &[0x7c, 0x01, 3],
+        &[0x7c, 0x41, 4],
+        &[0x65, 5],
+        &[0x7f, 6],
+    ];
+    RtpPacket {
+        sequence,
+        timestamp: u32::from(sequence / 4),
+        marker: sequence % 4 == 3 && of % 5 > 0,
+        payload: payloads[(of % 6) as usize],
+    }
+}
+
 /// Drawn packets, lost, twice and in another order: with no time, no far number and no empty payload it gives what a
 /// buffer and a receiver behind it give, but for access units without bytes.
 #[test]
@@ -350,26 +401,7 @@ fn drawn_packets_beside_a_buffer_and_a_receiver() {
         );
         let (mut got, mut wanted) = (Vec::new(), Vec::new());
         for place in 0..60u16 {
-            let jump = (draw(&mut state) % 6) as u16;
-            let sequence = 65500u16
-                .wrapping_add(round)
-                .wrapping_add(place)
-                .wrapping_sub(jump);
-            let of = u64::from(sequence).wrapping_mul(0x9e37_79b9) >> 3;
-            let payload: &[u8] = [
-                &[0x61, 1][..],
-                &[0x7c, 0x81, 2],
-                &[0x7c, 0x01, 3],
-                &[0x7c, 0x41, 4],
-                &[0x65, 5],
-                &[0x7f, 6],
-            ][(of % 6) as usize];
-            let packet = RtpPacket {
-                sequence,
-                timestamp: u32::from(sequence / 4),
-                marker: sequence % 4 == 3 && of % 5 > 0,
-                payload,
-            };
+            let packet = drawn_packet(&mut state, round + place);
             it.push(0, &packet).unwrap();
             buffer.push(&packet).unwrap();
             got.extend(units(&mut it, 0));

@@ -85,11 +85,8 @@ fn breaks<P: Parameter>(line: &str, wanted: Option<BrokenRule<P>>) {
 
 /// By RFC 6184, 8.1, and table A-1 of H.264; RFC 7798, 7.1, and tables A.8 and A.9 of H.265; RFC 9328, 7.2.
 #[test]
-fn rules_that_are_broken() {
-    use BrokenRule::{
-        AboveLevel, AspectRatios, BelowLevel, HashTypes, HighestLevel, InBandSets, Level,
-        OutOfOrder, Profile, Reordering,
-    };
+fn levels_of_h264_that_are_broken() {
+    use BrokenRule::{BelowLevel, HighestLevel, Level};
     breaks::<H264Parameter>("", None);
     breaks(
         "profile-level-id=42e007",
@@ -131,6 +128,11 @@ fn rules_that_are_broken() {
         "profile-level-id=42e01f;max-mbps=108000;max-smbps=108000;max-fs=3600;max-cpb=14000;max-dpb=6750;max-br=14000",
         None,
     );
+}
+
+#[test]
+fn rules_of_h264_that_are_broken() {
+    use BrokenRule::{AspectRatios, InBandSets, OutOfOrder, Profile, Reordering};
     breaks::<H264Parameter>("packetization-mode=2", Some(Reordering));
     breaks::<H264Parameter>(
         "packetization-mode=2;sprop-interleaving-depth=1",
@@ -155,6 +157,11 @@ fn rules_that_are_broken() {
     );
     breaks::<H264Parameter>("in-band-parameter-sets=1", None);
     breaks::<H264Parameter>("use-level-src-parameter-sets=1", None);
+}
+
+#[test]
+fn rules_of_h265_that_are_broken() {
+    use BrokenRule::{AboveLevel, BelowLevel, HashTypes, HighestLevel, Level, Profile, Reordering};
     breaks::<H265Parameter>("", None);
     breaks::<H265Parameter>("profile-id=31", Some(Profile));
     breaks::<H265Parameter>("profile-space=1", Some(Profile));
@@ -194,6 +201,13 @@ fn rules_that_are_broken() {
     breaks::<H265Parameter>("include-dph=", None);
     breaks::<H265Parameter>("include-dph=0,256", Some(HashTypes));
     breaks::<H265Parameter>("include-dph=0,,2", Some(HashTypes));
+}
+
+#[test]
+fn rules_of_h266_that_are_broken() {
+    use BrokenRule::{
+        AboveLevel, BelowLevel, HighestLevel, Level, OutOfOrder, Profile, Reordering,
+    };
     breaks::<H266Parameter>("", None);
     breaks("max-lsr=33177599", Some(BelowLevel(H266Parameter::MaxLsr)));
     breaks::<H266Parameter>("max-lsr=530841600", None);

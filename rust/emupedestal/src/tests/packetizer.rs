@@ -183,6 +183,10 @@ fn h265_sets_with_the_header_of_sets() {
         &[wanted, "820baa"],
     );
 
+    // A unit of type 48 that a payload brings is no packet of sets.
+    let of_type_48 = "600b 0002 4001 0002 4201";
+    sends(end, 1200, &bytes(of_type_48), &[of_type_48]);
+
     end.with_donl(true);
     let numbered = "6001 0000 0002 4001 00 0002 4201 00 0002 4401";
     sends(end, 1200, &units, &[numbered, "020b 0003 aa"]);

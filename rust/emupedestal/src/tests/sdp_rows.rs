@@ -1,9 +1,9 @@
 //! Lines of SDP as text: `bindings/streams/sdp.txt`, which says how it is written, and which C, Go and Python walk too.
 
 use crate::sdp::{
-    AnswerConfig, AnswerRules, BrokenRule, CodecParameters, Direction, Fault, H264Parameter,
-    H265Parameter, H266Parameter, Parameter, ParametersError, RepairMap, RtpMapError, RtxError,
-    RtxFormat, SetError,
+    AgreedSets, AgreedStream, AnswerConfig, AnswerRules, BrokenRule, CodecParameters, Direction,
+    Fault, H264Parameter, H264Parameters, H265Parameter, H266Parameter, LevelSetsError, Parameter,
+    ParametersError, RepairMap, RtpMapError, RtxError, RtxFormat, SetError, UnitsError,
 };
 use std::fmt::Display;
 
@@ -126,6 +126,115 @@ fn ways_of(codec: &str, offer: &str, own: &str) -> String {
     }
 }
 
+/// How an end answers, in words.
+fn config_of(how: &str) -> AnswerConfig {
+    let has = |word| how.split(' ').any(|it| it == word);
+    AnswerConfig {
+        any_order: has("any-order"),
+        rules: if has("webrtc") {
+            AnswerRules::Webrtc
+        } else {
+            AnswerRules::Rfc
+        },
+        direction: match how.split(' ').next() {
+            Some("both") => Direction::SendRecv,
+            Some("sends") => Direction::SendOnly,
+            Some("receives") => Direction::RecvOnly,
+            _ => panic!("{how}"),
+        },
+        multicast: has("multicast"),
+    }
+}
+
+/// A stream as the text has it.
+fn words_of_stream(stream: Option<AgreedStream>) -> String {
+    let Some(AgreedStream { level, mode, sets }) = stream else {
+        return "-".into();
+    };
+    let mode = mode.map_or(String::from("-"), |it| it.to_string());
+    let sets = match sets {
+        AgreedSets::InBand => "in-band",
+        AgreedSets::Told => "told",
+        AgreedSets::ToldOfLevel => "told-of-level",
+    };
+    format!("{level} {mode} {sets}")
+}
+
+/// What our end sends and receives, which is what the other receives and sends.
+fn agreed<P: Parameter>(config: AnswerConfig, own: &str, other: &str) -> String {
+    let (own, other): (CodecParameters<P>, CodecParameters<P>) =
+        (own.parse().expect(own), other.parse().expect(other));
+    let ours = own.agreed_with(config, &other);
+    let opposite = AnswerConfig {
+        direction: config.direction.opposite(),
+        ..config
+    };
+    let theirs = other.agreed_with(opposite, &own);
+    assert_eq!((ours.sends, ours.receives), (theirs.receives, theirs.sends));
+    format!(
+        "{}|{}",
+        words_of_stream(ours.sends),
+        words_of_stream(ours.receives)
+    )
+}
+
+/// The same of a codec's formats.
+fn agreed_of(codec: &str, config: AnswerConfig, own: &str, other: &str) -> String {
+    match codec {
+        "h264" => agreed::<H264Parameter>(config, own, other),
+        "h265" => agreed::<H265Parameter>(config, own, other),
+        "h266" => agreed::<H266Parameter>(config, own, other),
+        _ => panic!("{codec}"),
+    }
+}
+
+/// Whether ours receives what is declared.
+fn is_accepted<P: Parameter>(config: AnswerConfig, declared: &str, own: &str) -> &'static str {
+    let format: CodecParameters<P> = declared.parse().expect(declared);
+    match format.is_accepted_with(config, &[own.parse().expect(own)]) {
+        true => "yes",
+        false => "no",
+    }
+}
+
+/// The same of a codec's formats.
+fn accepted_of(codec: &str, config: AnswerConfig, declared: &str, own: &str) -> String {
+    match codec {
+        "h264" => is_accepted::<H264Parameter>(config, declared, own).into(),
+        "h265" => is_accepted::<H265Parameter>(config, declared, own).into(),
+        "h266" => is_accepted::<H266Parameter>(config, declared, own).into(),
+        _ => panic!("{codec}"),
+    }
+}
+
+/// Whether the sets of a level are those that `sprop-parameter-sets` says: what the text has of them, or why there are
+/// none.
+fn level_of(codec: &str, line: &str, level: &str, wanted: &str) -> String {
+    if codec != "h264" {
+        return "! codec".into();
+    }
+    let format: H264Parameters = line.parse().expect(line);
+    match format.sets_of_level(level.parse().expect(level)) {
+        Ok(None) => "-".into(),
+        Ok(Some(sets)) => {
+            let plain = format!("sprop-parameter-sets={wanted}");
+            let plain: H264Parameters = plain.parse().expect(wanted);
+            assert_eq!(Ok(sets), plain.sprop_parameter_sets(), "{wanted}");
+            wanted.into()
+        }
+        Err(LevelSetsError::NotHexadecimal { place }) => format!("! not hexadecimal {place}"),
+        Err(LevelSetsError::NoSets { place }) => format!("! no sets {place}"),
+        Err(LevelSetsError::Sets { place, fault }) => match fault {
+            UnitsError::NotBase64 { .. } => format!("! no base64 {place}"),
+            UnitsError::Empty { .. } => format!("! empty unit {place}"),
+            UnitsError::OtherType { .. } => format!("! other type {place}"),
+            UnitsError::StartCode { .. } => format!("! start code {place}"),
+            error => panic!("{error}"),
+        },
+        Err(error) => panic!("{error}"),
+    }
+}
+
 /// What is written of a payload type of what goes beside video, or why it is none.
 fn map_of(line: &str) -> String {
     match line.parse::<RepairMap>() {
@@ -179,6 +288,17 @@ fn rows_of_the_text() {
             ["ways", codec, offer, own, ref wanted @ ..] => {
                 (ways_of(codec, offer, own), wanted.join("|"))
             }
+            ["agree", codec, how, own, other, sends, receives] => {
+                let got = agreed_of(codec, config_of(how), own, other);
+                (got, format!("{sends}|{receives}"))
+            }
+            ["declared", codec, how, declared, own, wanted] => {
+                let got = accepted_of(codec, config_of(how), declared, own);
+                (got, wanted.into())
+            }
+            ["level", codec, line, level, wanted] => {
+                (level_of(codec, line, level, wanted), wanted.into())
+            }
             ["map", line, wanted] => (map_of(line), wanted.into()),
             ["rtx", line, ref wanted @ ..] => (rtx_of(line), wanted.join("|")),
             _ => panic!("{row}"),
@@ -186,5 +306,5 @@ fn rows_of_the_text() {
         assert_eq!(got, wanted, "{row}");
         count += 1;
     }
-    assert!(count > 80, "{count} rows");
+    assert!(count > 130, "{count} rows");
 }

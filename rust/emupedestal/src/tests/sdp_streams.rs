@@ -152,6 +152,10 @@ fn capability_points() {
     assert_eq!(write_capability_points(&points).as_deref(), Ok(text));
     assert_eq!(read_capability_points(text), Ok(points));
     assert_eq!(H265Parameters::default().capability_points(), Ok(vec![]));
+}
+
+#[test]
+fn capability_points_that_are_refused() {
     let limits = |place, fault| CapabilityPointsError::Limits { place, fault };
     for (text, wanted) in [
         ("", CapabilityPointsError::NoBraces),
@@ -182,6 +186,10 @@ fn capability_points() {
         format.capability_points_or_default(),
         Err(CapabilityPointsError::NoLimit { place: 0 })
     );
+}
+
+#[test]
+fn constraints_of_h265() {
     let format: H265Parameters = "interop-constraints=9000000000aB".parse().unwrap();
     assert_eq!(format.interop_constraints(), 0x9000_0000_00ab);
     assert_eq!(

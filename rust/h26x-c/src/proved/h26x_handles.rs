@@ -6,7 +6,6 @@
 //! units, of packets or of datagrams, with the one that had no room.
 pub mod access_units;
 mod every_unit;
-pub mod headers;
 pub mod payloads;
 pub mod push_all;
 pub mod receive_all;

@@ -5,8 +5,10 @@
 pub mod answer_options;
 mod changed_parameters;
 pub mod kept_parameters;
+pub mod level_units;
 pub mod repair;
 pub mod sdp;
 pub mod sdp_code;
 pub mod sdp_parameter;
 pub mod sdp_values;
+pub mod streams;

@@ -346,110 +346,113 @@ fn long_names() {
     assert_eq!(folder.names(), ["in.pcap", &longest]);
 }
 
+/// Words that are no call of the program, and what it says of them.
+const UNKNOWN: &[(&[&str], &str)] = &[
+    (&[], "say what to do"),
+    (&["frobnicate"], "there is no command frobnicate"),
+    (
+        &["send", "a.h264"],
+        "give the files as in: h26x send IN.h264 OUT.pcap",
+    ),
+    (
+        &["send", "a.mp4", "b.pcap"],
+        "a.mp4: its ending tells no codec",
+    ),
+    (
+        &["send", "--lengths", "units", "b.pcap"],
+        "units: its ending tells no codec",
+    ),
+    (
+        &["send", "a.h264", "b.pcap", "--mtu", "2"],
+        "--mtu 2: give a number from 3",
+    ),
+    (
+        &["send", "a.h265", "b.pcap", "--donl", "--mtu", "5"],
+        "--mtu 5: give a number from 6",
+    ),
+    (
+        &["send", "a.h264", "b.pcap", "--donl"],
+        "packets of H.264 bear no numbers",
+    ),
+    (
+        &["send", "a.h264", "b.pcap", "--fps", "0"],
+        "--fps 0: give it as 25",
+    ),
+    (
+        &["send", "a.h264", "b.pcap", "--window", "3"],
+        "--window is no option of send; receive and inspect have it",
+    ),
+    (
+        &["receive", "a.pcap", "b.h264", "--json"],
+        "--json is no option of receive; inspect has it",
+    ),
+    (
+        &["inspect", "a.pcap", "--frobnicate", "3"],
+        "there is no option --frobnicate\n",
+    ),
+    (&["inspect", "-x", "a.pcap"], "there is no option -x\n"),
+    (
+        &["inspect", "a.pcap", "--nothing=3"],
+        "there is no option --nothing\n",
+    ),
+    (&["--nothing=3"], "there is no option --nothing\n"),
+    (&["-x", "inspect"], "there is no option -x\n"),
+    (&["man", "--nothing"], "there is no option --nothing\n"),
+    (
+        &["completion", "zsh", "--json"],
+        "--json is no option of completion; inspect has it",
+    ),
+    (
+        &["--codec=h264", "inspect", "a.pcap"],
+        "--codec stands behind the command: send, receive or inspect",
+    ),
+    (
+        &["inspect", "a.pcap", "--color", "red"],
+        "--color red: give auto, always or never",
+    ),
+    (&["completion", "csh"], "say which shell: bash, zsh or fish"),
+    (
+        &["receive", "--all", "a.pcap", "-"],
+        "--all writes a file for each stream; name a folder",
+    ),
+    (
+        &["receive", "a.pcap", "b.h265", "--donl=0"],
+        "--donl has no value",
+    ),
+    (
+        &["inspect", "a.pcap", "--port=1", "--port=2"],
+        "--port is given twice",
+    ),
+    (
+        &["receive", "a.pcap", "b.h264", "--port"],
+        "--port lacks its value",
+    ),
+    (
+        &["receive", "a.pcap", "b.h264", "--codec", "av1"],
+        "--codec av1: give h264",
+    ),
+    (
+        &["inspect", "a.pcap", "--payload-type", "128"],
+        "--payload-type 128: give a number from 0 to 127",
+    ),
+    (
+        &["send", "a.h264", "b.pcap", "--as-str0m", "--no-delimiters"],
+        "--no-delimiters: --as-str0m has a rule of its own",
+    ),
+    (
+        &["inspect", "a.pcap", "--payload-type", "64"],
+        "--payload-type 64: 64 to 95 can't be told from RTCP",
+    ),
+    (
+        &["send", "a.h264", "b.pcap", "--payload-type", "95"],
+        "--payload-type 95: 64 to 95 can't be told from RTCP",
+    ),
+];
+
 #[test]
 fn words_that_are_unknown() {
     let folder = Folder::new();
-    for (words, said) in [
-        (&[][..], "say what to do"),
-        (&["frobnicate"], "there is no command frobnicate"),
-        (
-            &["send", "a.h264"],
-            "give the files as in: h26x send IN.h264 OUT.pcap",
-        ),
-        (
-            &["send", "a.mp4", "b.pcap"],
-            "a.mp4: its ending tells no codec",
-        ),
-        (
-            &["send", "--lengths", "units", "b.pcap"],
-            "units: its ending tells no codec",
-        ),
-        (
-            &["send", "a.h264", "b.pcap", "--mtu", "2"],
-            "--mtu 2: give a number from 3",
-        ),
-        (
-            &["send", "a.h265", "b.pcap", "--donl", "--mtu", "5"],
-            "--mtu 5: give a number from 6",
-        ),
-        (
-            &["send", "a.h264", "b.pcap", "--donl"],
-            "packets of H.264 bear no numbers",
-        ),
-        (
-            &["send", "a.h264", "b.pcap", "--fps", "0"],
-            "--fps 0: give it as 25",
-        ),
-        (
-            &["send", "a.h264", "b.pcap", "--window", "3"],
-            "--window is no option of send; receive and inspect have it",
-        ),
-        (
-            &["receive", "a.pcap", "b.h264", "--json"],
-            "--json is no option of receive; inspect has it",
-        ),
-        (
-            &["inspect", "a.pcap", "--frobnicate", "3"],
-            "there is no option --frobnicate\n",
-        ),
-        (&["inspect", "-x", "a.pcap"], "there is no option -x\n"),
-        (
-            &["inspect", "a.pcap", "--nothing=3"],
-            "there is no option --nothing\n",
-        ),
-        (&["--nothing=3"], "there is no option --nothing\n"),
-        (&["-x", "inspect"], "there is no option -x\n"),
-        (&["man", "--nothing"], "there is no option --nothing\n"),
-        (
-            &["completion", "zsh", "--json"],
-            "--json is no option of completion; inspect has it",
-        ),
-        (
-            &["--codec=h264", "inspect", "a.pcap"],
-            "--codec stands behind the command: send, receive or inspect",
-        ),
-        (
-            &["inspect", "a.pcap", "--color", "red"],
-            "--color red: give auto, always or never",
-        ),
-        (&["completion", "csh"], "say which shell: bash, zsh or fish"),
-        (
-            &["receive", "--all", "a.pcap", "-"],
-            "--all writes a file for each stream; name a folder",
-        ),
-        (
-            &["receive", "a.pcap", "b.h265", "--donl=0"],
-            "--donl has no value",
-        ),
-        (
-            &["inspect", "a.pcap", "--port=1", "--port=2"],
-            "--port is given twice",
-        ),
-        (
-            &["receive", "a.pcap", "b.h264", "--port"],
-            "--port lacks its value",
-        ),
-        (
-            &["receive", "a.pcap", "b.h264", "--codec", "av1"],
-            "--codec av1: give h264",
-        ),
-        (
-            &["inspect", "a.pcap", "--payload-type", "128"],
-            "--payload-type 128: give a number from 0 to 127",
-        ),
-        (
-            &["send", "a.h264", "b.pcap", "--as-str0m", "--no-delimiters"],
-            "--no-delimiters: --as-str0m has a rule of its own",
-        ),
-        (
-            &["inspect", "a.pcap", "--payload-type", "64"],
-            "--payload-type 64: 64 to 95 can't be told from RTCP",
-        ),
-        (
-            &["send", "a.h264", "b.pcap", "--payload-type", "95"],
-            "--payload-type 95: 64 to 95 can't be told from RTCP",
-        ),
-    ] {
+    for (words, said) in UNKNOWN {
         folder.run(words).says(2, &[said, "h26x --help"]);
     }
     folder.run(&["--help"]).says(

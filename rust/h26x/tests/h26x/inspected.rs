@@ -209,84 +209,86 @@ fn what_is_lost_refused_and_late() {
     );
 }
 
+/// By codec and options a packet that is refused, and what is said of it.
+const REFUSED: [(&str, &[&str], &[u8], &str); 12] = [
+    (
+        "h264",
+        &[],
+        &[0x7c],
+        "an FU-A needs an FU indicator and an FU header, a byte each (RFC 6184, 5.8)",
+    ),
+    (
+        "h264",
+        &[],
+        &[0x19, 0, 0],
+        "a STAP-B, type 25, is of the interleaved mode",
+    ),
+    (
+        "h265",
+        &[],
+        &[0x48, 1],
+        "a unit needs a byte behind it to be taken (RFC 7798, 1.1.4)",
+    ),
+    (
+        "h265",
+        &[],
+        &[0x60, 1, 0, 3, 0x40, 1, 1],
+        "an AP needs two NAL units or more",
+    ),
+    (
+        "h265",
+        &[],
+        &[0x62, 1, 0x93],
+        "an FU needs a byte of FU payload",
+    ),
+    (
+        "h265",
+        &[],
+        &[0x64, 1, 0x26, 0x30, 1],
+        "a PACI packet needs its fields",
+    ),
+    (
+        "h265",
+        &["--donl"],
+        &[0x02, 1, 0, 1],
+        "needs DONL and a byte behind it (RFC 7798, 4.4.1)",
+    ),
+    (
+        "h265",
+        &[],
+        &[0x82, 1, 9],
+        "the forbidden_zero_bit of the payload header, is 1; it must be 0 (RFC 7798, 1.1.4)",
+    ),
+    (
+        "h266",
+        &[],
+        &[0, 0xa9],
+        "a unit needs a byte behind it to be taken (RFC 9328, 1.1.4)",
+    ),
+    (
+        "h266",
+        &[],
+        &[0, 0xe1, 0, 3, 0, 1, 1],
+        "an AP needs two NAL units or more",
+    ),
+    (
+        "h266",
+        &[],
+        &[0, 0xe1, 0, 3, 0, 9, 1, 0, 2, 0, 0xe1],
+        "an AP holds an AP or an FU",
+    ),
+    (
+        "h266",
+        &[],
+        &[0x80, 9, 1],
+        "the forbidden_zero_bit of the payload header, is 1; it must be 0 (RFC 9328, 1.1.4)",
+    ),
+];
+
 /// Each way to be too short says what is missing, in the words of its section.
 #[test]
 fn what_refused_packets_lack() {
-    let rows: [(&str, &[&str], &[u8], &str); 12] = [
-        (
-            "h264",
-            &[],
-            &[0x7c],
-            "an FU-A needs an FU indicator and an FU header, a byte each (RFC 6184, 5.8)",
-        ),
-        (
-            "h264",
-            &[],
-            &[0x19, 0, 0],
-            "a STAP-B, type 25, is of the interleaved mode",
-        ),
-        (
-            "h265",
-            &[],
-            &[0x48, 1],
-            "a unit needs a byte behind it to be taken (RFC 7798, 1.1.4)",
-        ),
-        (
-            "h265",
-            &[],
-            &[0x60, 1, 0, 3, 0x40, 1, 1],
-            "an AP needs two NAL units or more",
-        ),
-        (
-            "h265",
-            &[],
-            &[0x62, 1, 0x93],
-            "an FU needs a byte of FU payload",
-        ),
-        (
-            "h265",
-            &[],
-            &[0x64, 1, 0x26, 0x30, 1],
-            "a PACI packet needs its fields",
-        ),
-        (
-            "h265",
-            &["--donl"],
-            &[0x02, 1, 0, 1],
-            "needs DONL and a byte behind it (RFC 7798, 4.4.1)",
-        ),
-        (
-            "h265",
-            &[],
-            &[0x82, 1, 9],
-            "the forbidden_zero_bit of the payload header, is 1; it must be 0 (RFC 7798, 1.1.4)",
-        ),
-        (
-            "h266",
-            &[],
-            &[0, 0xa9],
-            "a unit needs a byte behind it to be taken (RFC 9328, 1.1.4)",
-        ),
-        (
-            "h266",
-            &[],
-            &[0, 0xe1, 0, 3, 0, 1, 1],
-            "an AP needs two NAL units or more",
-        ),
-        (
-            "h266",
-            &[],
-            &[0, 0xe1, 0, 3, 0, 9, 1, 0, 2, 0, 0xe1],
-            "an AP holds an AP or an FU",
-        ),
-        (
-            "h266",
-            &[],
-            &[0x80, 9, 1],
-            "the forbidden_zero_bit of the payload header, is 1; it must be 0 (RFC 9328, 1.1.4)",
-        ),
-    ];
-    for (codec, options, payload, said) in rows {
+    for (codec, options, payload, said) in REFUSED {
         let folder = Folder::new();
         folder.write("in.pcap", &pcap_with(&packets(&[(0, true, payload)])));
         let ran = folder.run(&[&["inspect", "in.pcap", "--codec", codec], options].concat());

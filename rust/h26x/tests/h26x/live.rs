@@ -251,75 +251,60 @@ fn a_signal_ends_it() {
     );
 }
 
+/// FFmpeg sends a stream, which is received; whether there is FFmpeg.
+fn from_ffmpeg(folder: &Folder, codec: &str, name: &str, stream: &[u8]) -> bool {
+    let port = free_port();
+    let (at, to) = (
+        format!("udp://127.0.0.1:{port}"),
+        format!("rtp://127.0.0.1:{port}"),
+    );
+    let receive = ["receive", &at, "out", "--codec", codec, "--for", "4"];
+    let receiver = listening(folder, port, &receive);
+    let words = format!("-loglevel error -re -i {name} -c copy -f rtp {to}");
+    let words: Vec<&str> = words.split(' ').collect();
+    let Some(peer) = Peer::start(folder, "ffmpeg", &words) else {
+        return false;
+    };
+    assert!(peer.end(), "FFmpeg sends");
+    assert!(receiver.end(), "it is received");
+    check_units(codec, &folder.read("out"), stream);
+    true
+}
+
+/// A stream is sent to FFmpeg, where that can listen.
+fn to_ffmpeg(folder: &Folder, codec: &str, name: &str, stream: &[u8]) {
+    let port = free_port();
+    let to = format!("udp://127.0.0.1:{port}");
+    folder
+        .run(&["send", name, &to, "--fps", "1000", "--sdp", "out.sdp"])
+        .says(0, &[]);
+    let words = format!(
+        "-loglevel error -protocol_whitelist file,udp,rtp -reorder_queue_size 0 -i out.sdp -c copy -f {} -y back",
+        codec_of(codec)
+    );
+    let words: Vec<&str> = words.split(' ').collect();
+    let mut peer = Peer::start(folder, "ffmpeg", &words).expect("FFmpeg");
+    if !peer.listens(port) {
+        return;
+    }
+    let again = ["send", name, &to, "--fps", "50"];
+    folder.run(&again).says(0, &[" access units in"]);
+    // The goodbye at the end ends FFmpeg.
+    assert!(peer.end(), "FFmpeg takes them");
+    check_units(codec, &folder.read("back"), stream);
+}
+
 /// FFmpeg sends to a port, and takes what is sent by its description.
 #[test]
 fn ffmpeg_at_the_other_end() {
     for (codec, stream) in small_streams() {
-        let (folder, port) = (Folder::new(), free_port());
+        let folder = Folder::new();
         let name = format!("in.{codec}");
         folder.write(&name, &stream);
-        let (at, to) = (
-            format!("udp://127.0.0.1:{port}"),
-            format!("rtp://127.0.0.1:{port}"),
-        );
-        if !tells_sockets() {
+        if !tells_sockets() || !from_ffmpeg(&folder, codec, &name, &stream) {
             return;
         }
-        let receiver = listening(
-            &folder,
-            port,
-            &["receive", &at, "out", "--codec", codec, "--for", "4"],
-        );
-        let words = [
-            "-loglevel",
-            "error",
-            "-re",
-            "-i",
-            &name,
-            "-c",
-            "copy",
-            "-f",
-            "rtp",
-            &to,
-        ];
-        let Some(peer) = Peer::start(&folder, "ffmpeg", &words) else {
-            return;
-        };
-        assert!(peer.end(), "FFmpeg sends");
-        assert!(receiver.end(), "it is received");
-        check_units(codec, &folder.read("out"), &stream);
-        let port = free_port();
-        let to = format!("udp://127.0.0.1:{port}");
-        folder
-            .run(&["send", &name, &to, "--fps", "1000", "--sdp", "out.sdp"])
-            .says(0, &[]);
-        let mut words = vec![
-            "-loglevel",
-            "error",
-            "-protocol_whitelist",
-            "file,udp,rtp",
-            "-reorder_queue_size",
-        ];
-        words.extend([
-            "0",
-            "-i",
-            "out.sdp",
-            "-c",
-            "copy",
-            "-f",
-            codec_of(codec),
-            "-y",
-            "back",
-        ]);
-        let mut peer = Peer::start(&folder, "ffmpeg", &words).expect("FFmpeg");
-        if !peer.listens(port) {
-            return;
-        }
-        let again = ["send", &name, &to, "--fps", "50"];
-        folder.run(&again).says(0, &[" access units in"]);
-        // The goodbye at the end ends FFmpeg.
-        assert!(peer.end(), "FFmpeg takes them");
-        check_units(codec, &folder.read("back"), &stream);
+        to_ffmpeg(&folder, codec, &name, &stream);
     }
 }
 

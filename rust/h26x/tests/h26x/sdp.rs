@@ -214,20 +214,21 @@ fn the_stream_that_is_described() {
     assert_eq!(written(&[]), [0x61, 0x88, 2]);
 }
 
+/// A description that has an SPS and a PPS.
+const WITH_SETS: &str = "m=video 5004 RTP/AVP 96\na=rtpmap:96 H264/90000\n\
+    a=fmtp:96 sprop-parameter-sets=Z2QAKA==,aM4=;packetization-mode=1\n";
+const SPS: &[u8] = &[0x67, 0x64, 0x00, 0x28];
+const PPS: &[u8] = &[0x68, 0xce];
+const SLICE: &[u8] = &[0x65, 0x88, 1];
+
 /// What a receiver has of the stream, and of the description: sets are written of whose kind there is none before the
 /// first picture.
 #[test]
 fn sets_that_the_stream_has_not() {
     let folder = Folder::new();
-    let line = "m=video 5004 RTP/AVP 96\na=rtpmap:96 H264/90000\n\
-        a=fmtp:96 sprop-parameter-sets=Z2QAKA==,aM4=;packetization-mode=1\n";
-    folder.write("in.sdp", format!("v=0\n{line}").as_bytes());
-    let (sps, pps): (&[u8], &[u8]) = (&[0x67, 0x64, 0x00, 0x28], &[0x68, 0xce]);
-    let (slice, own, sei): (&[u8], &[u8], &[u8]) = (
-        &[0x65, 0x88, 1],
-        &[0x67, 0x42, 0xc0, 0x1f],
-        &[0x06, 5, 1, 0x80],
-    );
+    folder.write("in.sdp", format!("v=0\n{WITH_SETS}").as_bytes());
+    let (sps, pps, slice) = (SPS, PPS, SLICE);
+    let (own, sei): (&[u8], &[u8]) = (&[0x67, 0x42, 0xc0, 0x1f], &[0x06, 5, 1, 0x80]);
     type Units<'a> = &'a [&'a [u8]];
     let cases: [(Units, Units, &str); 5] = [
         (
@@ -265,23 +266,34 @@ fn sets_that_the_stream_has_not() {
             assert_eq!(folder.read("back.h264"), wanted.collect::<Vec<u8>>());
         }
     }
-    // A decoder that has both can begin with the first picture, and with one of them it can't.
+}
+
+/// A decoder that has both can begin with the first picture, and with one of them it can't.
+#[test]
+fn sets_with_which_a_decoder_begins() {
+    let folder = Folder::new();
     for (sets, clean) in [("Z2QAKA==,aM4=", 1), ("Z2QAKA==", 0), ("aM4=", 0)] {
-        let line = line.replace("Z2QAKA==,aM4=", sets);
+        let line = WITH_SETS.replace("Z2QAKA==,aM4=", sets);
         folder.write("one.sdp", format!("v=0\n{line}").as_bytes());
-        folder.write("in.pcap", &pcap_with(&[Rtp::new(0, 0, true, slice)]));
+        folder.write("in.pcap", &pcap_with(&[Rtp::new(0, 0, true, SLICE)]));
         let ran = folder.run(&["inspect", "in.pcap", "--sdp", "one.sdp", "--json"]);
         let has_clean = ran.out.contains(&format!("\"clean\":{clean},"));
         assert!(has_clean, "{sets}: {ran:#?}");
     }
-    // Through a pipe they go out with the first picture.
+}
+
+/// Through a pipe they go out with the first picture.
+#[test]
+fn sets_through_a_pipe() {
+    let folder = Folder::new();
+    folder.write("in.sdp", format!("v=0\n{WITH_SETS}").as_bytes());
     folder.write(
         "in.pcap",
-        &pcap_with(&[Rtp::new(0, 0, true, slice), Rtp::new(1, 90, true, slice)]),
+        &pcap_with(&[Rtp::new(0, 0, true, SLICE), Rtp::new(1, 90, true, SLICE)]),
     );
     let ran = folder.shell("$0 receive --sdp in.sdp - out.h264 <in.pcap");
     ran.says(0, &["2 parameter sets of"]);
-    assert_eq!(cut(&folder.read("out.h264")), [sps, pps, slice, slice]);
+    assert_eq!(cut(&folder.read("out.h264")), [SPS, PPS, SLICE, SLICE]);
 }
 
 /// What is refused, and what is said of it.
@@ -334,6 +346,17 @@ fn descriptions_that_are_refused() {
         let receive = ["receive", "in.pcap", "out.h264", "--sdp", "in.sdp"];
         folder.run(&receive).says(1, &[said]);
     }
+}
+
+/// By `inspect`, by both ways to say a stream, and what can't be read.
+#[test]
+fn descriptions_that_inspect_refuses() {
+    let folder = Folder::new();
+    folder.write(
+        "in.pcap",
+        &pcap_with(&[Rtp::new(0, 0, true, &[0x65, 0x88])]),
+    );
+    let video = "m=video 5004 RTP/AVP 96\r\na=rtpmap:96 ";
     folder.write(
         "in.sdp",
         format!("{video}H265/90000\r\na=fmtp:96 tx-mode=MRST").as_bytes(),

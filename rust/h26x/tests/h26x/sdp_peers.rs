@@ -171,19 +171,8 @@ fn what_ffmpeg_describes() {
         }
         let (port, [socket, _control]) = sockets();
         let to = format!("rtp://127.0.0.1:{port}");
-        let send = [
-            "-v",
-            "error",
-            "-i",
-            "in.mp4",
-            "-c",
-            "copy",
-            "-f",
-            "rtp",
-            "-sdp_file",
-            "in.sdp",
-            &to,
-        ];
+        let send = format!("-v error -i in.mp4 -c copy -f rtp -sdp_file in.sdp {to}");
+        let send: Vec<&str> = send.split(' ').collect();
         let Some(packets) = packets_from(&socket, &folder, "ffmpeg", &send) else {
             return;
         };

@@ -11,15 +11,39 @@ fn objects(text: &str) -> Vec<Value> {
     text.lines().map(object).collect()
 }
 
-/// Each kind of object, with all that the manual page says of it.
-#[test]
-fn objects_of_json() {
+/// What each packet has, one of a unit alone that is no keyframe.
+fn common(sequence: u16, seconds: f64, marker: bool, bytes: usize) -> Value {
+    json!({
+        "is": "packet", "sequence": sequence, "seconds": seconds,
+        "timestamp": u32::from(sequence) * 90, "marker": marker, "bytes": bytes, "padding": 0,
+        "moved": false, "recovered": false, "packet": "single", "keyframe": false, "lost_before": 0,
+    })
+}
+
+/// An object with more, or other, fields.
+fn with(mut object: Value, more: Value) -> Value {
+    let more = more.as_object().expect("an object").clone();
+    object.as_object_mut().expect("an object").extend(more);
+    object
+}
+
+/// An access unit of one packet, or of those of one number, that no decoder can show.
+fn unit(sequence: u16, seconds: f64, bytes: usize, missing: u32, is_whole: bool) -> Value {
+    json!({
+        "is": "access unit", "seconds": seconds, "timestamp": u32::from(sequence) * 90, "bytes": bytes,
+        "keyframe": false, "first": sequence, "last": sequence, "missing": missing,
+        "continues": false, "whole": is_whole, "clean": false, "disposable": false,
+    })
+}
+
+/// Sets in an aggregate, fragments, a loss, one twice, one late, a stray and padding.
+fn sent() -> [Rtp; 7] {
     let packet = |sequence: u16, marker, payload: &[u8]| {
         Rtp::new(sequence, u32::from(sequence) * 90, marker, payload)
     };
     let mut padding = packet(10, false, &[0, 0, 3]);
     padding.payload = vec![0, 0, 3];
-    let sent = [
+    [
         packet(
             5,
             false,
@@ -31,39 +55,13 @@ fn objects_of_json() {
         packet(8, true, &[0x5e, 0x85]),
         packet(30_000, true, &[0x41]),
         padding,
-    ];
-    let mut capture = pcap_with(&sent);
-    let last = capture.len() - 15;
-    assert_eq!(capture[last], 0x80, "the header of the last packet");
-    capture[last] |= 0x20;
-    let folder = Folder::new();
-    folder.write("in.pcap", &capture);
-    let ran = folder.run(&["inspect", "in.pcap", "--json", "--window", "0"]);
-    assert_eq!((ran.status, ran.err.as_str()), (3, ""));
-    let objects = objects(&ran.out);
-    let common = |sequence: u16, seconds: f64, marker: bool, bytes: usize| {
-        json!({
-            "is": "packet", "sequence": sequence, "seconds": seconds,
-            "timestamp": u32::from(sequence) * 90, "marker": marker, "bytes": bytes, "padding": 0,
-            "moved": false, "recovered": false, "packet": "single", "keyframe": false, "lost_before": 0,
-        })
-    };
-    let with = |mut object: Value, more: Value| {
-        let more = more.as_object().expect("an object").clone();
-        object.as_object_mut().expect("an object").extend(more);
-        object
-    };
-    let unit = |sequence: u16, seconds: f64, bytes: usize, missing: u32, is_whole: bool| {
-        json!({
-            "is": "access unit", "seconds": seconds, "timestamp": u32::from(sequence) * 90, "bytes": bytes,
-            "keyframe": false, "first": sequence, "last": sequence, "missing": missing,
-            "continues": false, "whole": is_whole, "clean": false, "disposable": false,
-        })
-    };
+    ]
+}
+
+/// The objects of these, up to the totals.
+fn wanted() -> [Value; 10] {
     let slice = json!([{"type": "slice", "bytes": 3}]);
-    let refused = "type 30 is undefined or reserved; a payload needs type 1 to 23, 24 (STAP-A) or 28 \
-        (FU-A) (RFC 6184, 5.2)";
-    let wanted = [
+    [
         json!({
             "is": "stream", "ssrc": 0x0102_0304, "payload_type": 96, "address": "192.0.2.2",
             "port": 5004, "codec": "h264",
@@ -100,9 +98,12 @@ fn objects_of_json() {
             "bytes": 0, "padding": 3, "moved": false, "recovered": false, "became": "padding", "lost_before": 0,
         }),
         json!({"is": "stray", "sequence": 30_000}),
-    ];
-    assert_eq!(objects[..10], wanted);
-    let totals = &objects[10];
+    ]
+}
+
+/// Compares what is counted.
+#[track_caller]
+fn check_totals(totals: &Value) {
     for (name, count) in [
         ("packets", 5),
         ("bytes", 19),
@@ -126,12 +127,31 @@ fn objects_of_json() {
         assert_eq!(totals[name], json!(count), "{name}");
     }
     assert_eq!(totals["told"][0], "lost: 2 packets: 2 before 9");
+}
+
+/// Each kind of object, with all that the manual page says of it.
+#[test]
+fn objects_of_json() {
+    let sent = sent();
+    let mut capture = pcap_with(&sent);
+    let last = capture.len() - 15;
+    assert_eq!(capture[last], 0x80, "the header of the last packet");
+    capture[last] |= 0x20;
+    let folder = Folder::new();
+    folder.write("in.pcap", &capture);
+    let ran = folder.run(&["inspect", "in.pcap", "--json", "--window", "0"]);
+    assert_eq!((ran.status, ran.err.as_str()), (3, ""));
+    let objects = objects(&ran.out);
+    assert_eq!(objects[..10], wanted());
+    check_totals(&objects[10]);
     let mut refuses = sent.to_vec();
     refuses[4].sequence = 11;
     refuses.remove(3);
     folder.write("in.pcap", &pcap_with(&refuses));
     let ran = folder.run(&["inspect", "in.pcap", "--json", "--codec", "h264"]);
     let mut told = self::objects(&ran.out).into_iter();
+    let refused = "type 30 is undefined or reserved; a payload needs type 1 to 23, 24 (STAP-A) or 28 \
+        (FU-A) (RFC 6184, 5.2)";
     let reason = told.find(|it| it["sequence"] == 11).expect("it came");
     assert_eq!(reason["became"], "refused");
     assert_eq!(reason["reason"], refused);

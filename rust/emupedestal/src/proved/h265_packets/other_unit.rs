@@ -26,6 +26,7 @@ impl core::fmt::Debug for H265AggregationUnit {
 
 impl H265AggregationUnit {
     /// The unit of these parts (RFC 7798, 4.4.2).
+    #[allow(dead_code, reason = "tests have it")]
     pub(crate) fn of(dond: Option<u8>, nal_unit: Vec<u8>) -> Self {
         H265AggregationUnit { dond, nal_unit }
     }

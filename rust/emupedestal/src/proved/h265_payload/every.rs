@@ -4,7 +4,7 @@
 
 use crate::proved::h26x_core::h265_types::{AGGREGATION_PACKET, PACI_PACKET, VPS_NUT};
 use crate::proved::h26x_packetizer::EveryFormat;
-use crate::proved::h265_payload::codec::{H265, header_of};
+use crate::proved::h265_payload::codec::{H265Sending, header_of};
 use crate::proved::h265_payload::lowest_header::Lowest;
 
 /// What all of the units have.
@@ -16,13 +16,19 @@ fn lowest_of(units: &[&[u8]]) -> Lowest {
     lowest
 }
 
-impl EveryFormat for H265 {
+/// The header of an aggregate of units, by them.
+pub(crate) fn lowest_header_of(units: &[&[u8]]) -> [u8; 2] {
+    let (high, low) = lowest_of(units).header();
+    [high, low]
+}
+
+impl EveryFormat for H265Sending {
     fn units_start(self) -> usize {
-        if self.has_donl { 3 } else { 2 }
+        if self.codec.has_donl { 3 } else { 2 }
     }
 
     fn unit_start(self) -> usize {
-        if self.has_donl { 3 } else { 2 }
+        if self.codec.has_donl { 3 } else { 2 }
     }
 
     fn is_slice(self, unit: &[u8]) -> bool {
@@ -33,8 +39,7 @@ impl EveryFormat for H265 {
     }
 
     fn own_header(self, units: &[&[u8]]) -> [u8; 2] {
-        let (high, low) = lowest_of(units).header();
-        [high, low]
+        lowest_header_of(units)
     }
 
     fn has_own_header(self, unit: &[u8]) -> bool {

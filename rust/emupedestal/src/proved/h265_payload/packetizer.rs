@@ -11,7 +11,7 @@ use crate::proved::h26x_cut::{UnitSlices, ZeroRule};
 use crate::proved::h26x_packetizer::PayloadPacketizer;
 use crate::proved::h26x_payload::{DonlFormat, PayloadFormat, Sets, UnitKind};
 use crate::proved::h265_packets::header::high_byte;
-use crate::proved::h265_payload::codec::{H265, header_of};
+use crate::proved::h265_payload::codec::{H265, H265Sending, header_of};
 
 /// Sends the NAL units of payloads (RFC 7798).
 ///
@@ -24,7 +24,7 @@ use crate::proved::h265_payload::codec::{H265, header_of};
 /// limit: DONL in single packets, aggregates and first fragments, and a DOND of 0 from an
 /// aggregate's second set on. The limit of a call is the lesser of its `mtu` and the largest packet
 /// size, 1200 unless `with_max_packet_size` sets another; an `mtu` under 4 has no effect.
-pub type H265Packetizer = PayloadPacketizer<H265>;
+pub type H265Packetizer = PayloadPacketizer<H265Sending>;
 
 /// The first byte of this unit's header with another type: F and the layer's highest bit are kept.
 fn with_type(high: u8, nalu_type: u8) -> u8 {

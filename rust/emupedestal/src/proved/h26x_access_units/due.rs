@@ -261,6 +261,32 @@ fn take_unmarked<D: RunDepacketizer>(
     )
 }
 
+/// Takes a packet that is due as [`take_noted`] does, a copy of it that has its marker where that is
+/// believed.
+#[cold]
+#[inline(never)]
+fn take_unbelieved<D: RunDepacketizer>(
+    assembler: &mut AccessUnitAssembler<D>,
+    ended: &mut Vec<AccessUnit>,
+    framing: &mut Framing,
+    numbers: &mut NumbersSoFar,
+    counts: &mut Counts,
+    at: Framing,
+    packet: &RtpPacket<'_>,
+) -> Result<Received, PacketError> {
+    let taken = believed(at, packet);
+    take_noted(
+        assembler,
+        ended,
+        framing,
+        numbers,
+        counts,
+        at,
+        &taken,
+        packet.marker,
+    )
+}
+
 /// Takes a packet that is due as [`take_noted`] does, with its marker where that is believed.
 #[inline(always)]
 fn take_seen<D: RunDepacketizer>(
@@ -275,17 +301,19 @@ fn take_seen<D: RunDepacketizer>(
         return take_unmarked(assembler, ended, framing, numbers, counts, packet);
     }
     let at = framing_of(assembler, *framing, numbers, packet);
-    let taken = believed(at, packet);
-    take_noted(
-        assembler,
-        ended,
-        framing,
-        numbers,
-        counts,
-        at,
-        &taken,
-        packet.marker,
-    )
+    if at.believes(packet.marker) {
+        return take_noted(
+            assembler,
+            ended,
+            framing,
+            numbers,
+            counts,
+            at,
+            packet,
+            packet.marker,
+        );
+    }
+    take_unbelieved(assembler, ended, framing, numbers, counts, at, packet)
 }
 
 /// Takes a packet that is due as [`take_seen`] does. Where no number is expected its own is, if it

@@ -106,10 +106,14 @@ impl JitterBuffer {
     }
 
     /// Whether a number is more than a window, and than 100, ahead of the newest that waits, or of the
-    /// one that is due where none waits, and not late.
+    /// one that is due where none waits, and not late. One that is near the one that is due isn't,
+    /// whatever waits.
+    #[inline]
     pub fn is_ahead(&self, number: u16) -> bool {
         match self.buffer.due() {
-            Some(due) if self.buffer.is_beyond(number) => {
+            Some(due)
+                if number.wrapping_sub(due) > MAX_MISORDER && self.buffer.is_beyond(number) =>
+            {
                 number.wrapping_sub(self.buffer.newest(due)) > self.reach()
             }
             _ => false,
@@ -130,11 +134,6 @@ impl JitterBuffer {
     /// Whether none waits.
     pub fn is_empty(&self) -> bool {
         self.buffer.is_empty()
-    }
-
-    /// How many bytes of payloads wait.
-    pub fn bytes_len(&self) -> usize {
-        self.bytes
     }
 
     /// How many bytes wait with so many more, where these may wait.
@@ -293,11 +292,13 @@ impl JitterBuffer {
     }
 
     /// Whether the first packet isn't to wait for those before it.
+    #[inline]
     fn is_pressed(&self, now: u32) -> bool {
         self.is_over || self.bytes > self.config.held_limit || self.has_waited(now)
     }
 
     /// For how long a packet waits at most: one that begins the stream for its own time.
+    #[inline]
     fn longest_wait(&self) -> u32 {
         if self.has_begun || self.config.max_wait < self.config.begin_wait {
             self.config.max_wait
@@ -307,12 +308,14 @@ impl JitterBuffer {
     }
 
     /// Whether the packet that waits longest has waited long enough.
+    #[inline]
     fn has_waited(&self, now: u32) -> bool {
+        let longest = self.longest_wait();
+        if longest == u32::MAX {
+            return false;
+        }
         match self.arrivals.front() {
-            Some(arrival) => {
-                let longest = self.longest_wait();
-                longest != u32::MAX && now.wrapping_sub(arrival.at) >= longest
-            }
+            Some(arrival) => now.wrapping_sub(arrival.at) >= longest,
             None => false,
         }
     }
@@ -320,7 +323,7 @@ impl JitterBuffer {
     /// The packet that is due at this tick, if one is. It stays until it is popped.
     #[inline]
     pub fn first_due(&self, now: u32) -> Option<&HeldPacket> {
-        if self.is_pressed(now) || self.buffer.is_ready() {
+        if self.buffer.is_ready() || self.is_pressed(now) {
             self.buffer.first()
         } else {
             None

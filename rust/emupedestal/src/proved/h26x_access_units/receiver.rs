@@ -16,7 +16,7 @@ use crate::proved::h26x_access_units::passed::PassedNumbers;
 use crate::proved::h26x_access_units::pushed::{NotPushed, NotPushedReason, Pushed};
 use crate::proved::h26x_access_units::unit::{self, ReceivedAccessUnit, remove_first};
 use crate::proved::h26x_access_units::way::Way;
-use crate::proved::h26x_assembler::{AccessUnit, AccessUnitAssembler};
+use crate::proved::h26x_assembler::{AccessUnit, AccessUnitAssembler, UnitsSoFar};
 use crate::proved::h26x_core::PacketError;
 use crate::proved::h26x_depacketizer::RunDepacketizer;
 use crate::proved::h26x_receiver::SequencedDepacketizer;
@@ -499,6 +499,17 @@ impl<D: RunDepacketizer> AccessUnitReceiver<D> {
     /// (RFC 4585, 6.2.1). Of a stream that begins none is missing before the first packet that waits.
     pub fn missing(&self) -> Result<Vec<u16>, PacketError> {
         Ok(self.waiting.missing()?)
+    }
+
+    /// The NAL units that came whole so far of the access unit that is open: for who decodes each as
+    /// soon as it is complete. There are none where `next` hasn't given out what ended before. Later
+    /// packets put units behind these, until `next` gives out the access unit, with what is told of the
+    /// whole. A text of more than `unit_limit` bytes is given up.
+    pub fn units_so_far(&self) -> Option<UnitsSoFar<'_>> {
+        if self.has_ended() {
+            return None;
+        }
+        self.assembler.unit.units_so_far()
     }
 
     /// When to call `next` again at the latest, in the caller's ticks, if packets wait.

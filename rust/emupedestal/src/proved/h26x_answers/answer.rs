@@ -294,6 +294,7 @@ fn answered_values(
 }
 
 /// A payload type and the parameters of its format.
+#[allow(dead_code, reason = "tests have it")]
 #[derive(Debug)]
 pub struct Format<P: CodecParameter> {
     /// The payload type.
@@ -432,6 +433,7 @@ pub(crate) fn answer_format<P: CodecRules>(
 /// The answer to an offer: of its formats, in its order of preference, the first that one of ours
 /// answers, with its payload type; `None` where no two have a configuration in common (RFC 3264,
 /// section 6.1). To take more than one format, ask each for its answer.
+#[allow(dead_code, reason = "tests have it")]
 pub(crate) fn answer_to<P: CodecRules>(
     config: AnswerConfig,
     offer: &[Format<P>],

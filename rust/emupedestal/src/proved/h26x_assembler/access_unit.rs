@@ -129,6 +129,29 @@ impl AccessUnitSoFar {
     }
 }
 
+/// What came so far of an access unit that is open.
+#[derive(Clone, Copy)]
+pub struct UnitsSoFar<'a> {
+    /// The timestamp of its packets (RFC 3550, 5.1).
+    pub timestamp: u32,
+    /// The text of its units that came whole, in order: packets put further ones behind it.
+    pub bytes: &'a [u8],
+    /// What is told of these; `CodecExtra::None` where there is none.
+    pub extra: CodecExtra,
+}
+
+/// Of bytes it tells how many there are.
+impl<'a> core::fmt::Debug for UnitsSoFar<'a> {
+    fn fmt(&self, f: &mut core::fmt::Formatter<'_>) -> core::fmt::Result {
+        use crate::support::Count;
+        f.debug_struct("UnitsSoFar")
+            .field("timestamp", &self.timestamp)
+            .field("bytes", &Count(self.bytes.len()))
+            .field("extra", &self.extra)
+            .finish()
+    }
+}
+
 /// The access unit that is open, if one is: the next packet may belong to it. And the run that is
 /// open, in its text, or left by the last one; whether packets are missing right before the numbers
 /// that were skipped last; and the timestamp of the one that the marker of the last packet ended.
@@ -152,8 +175,21 @@ impl OpenAccessUnit {
     }
 
     /// Whether one is open.
+    #[allow(dead_code, reason = "tests have it")]
     pub fn is_open(&self) -> bool {
         self.unit.is_some()
+    }
+
+    /// The units of it that came whole; `None` where none is open.
+    pub fn units_so_far(&self) -> Option<UnitsSoFar<'_>> {
+        match &self.unit {
+            Some(unit) => Some(UnitsSoFar {
+                timestamp: unit.timestamp,
+                bytes: unit.text.text(),
+                extra: unit.extra,
+            }),
+            None => None,
+        }
     }
 
     /// How many bytes of whole units it holds; none where none is open.

@@ -27,6 +27,7 @@ fn go_on<D: RunDepacketizer>(
 }
 
 /// Takes a packet as the first of an access unit: the one that is open ends.
+#[inline(always)]
 fn begin<D: RunDepacketizer>(
     packets: &mut SequencedDepacketizer<D>,
     place: &mut OpenAccessUnit,

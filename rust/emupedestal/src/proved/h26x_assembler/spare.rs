@@ -79,8 +79,15 @@ impl SpareMemory {
             self.latest = memory.len();
             self.count = 1;
         }
-        let most = kept_memory(self.latest, self.earlier);
         let had = self.bytes.capacity();
+        if memory.capacity() <= KEPT_MEMORY && had <= KEPT_MEMORY {
+            // (whatever access units need so much may be kept)
+            if memory.capacity() > had && memory.capacity() <= limit {
+                self.bytes = memory;
+            }
+            return;
+        }
+        let most = kept_memory(self.latest, self.earlier);
         if memory.capacity() <= most.min(limit) && (had > most || memory.capacity() > had) {
             self.bytes = memory;
         } else if had > most {

@@ -2,7 +2,7 @@
 
 //! A depacketizer of one of the codecs, chosen when it is made.
 
-use crate::proved::h26x_codec::codec::Codec;
+use crate::proved::h26x_codec::codec::{Codec, with_held};
 use crate::proved::h26x_core::{CodecExtra, Depacketizer, PacketError};
 use crate::proved::h26x_depacketizer::{
     OpenRun, OpenText, RunDepacketizer, RunRule, UnitSink, UnitTest,
@@ -45,16 +45,6 @@ impl AnyDepacketizer {
         }
     }
 
-    /// How many bytes of memory it keeps for runs: twice the open run at most, or 2^20 bytes. Of H.265
-    /// what `shown` shows, and will show, is not counted.
-    pub fn run_memory(&self) -> usize {
-        match self {
-            AnyDepacketizer::H264(it) => it.run_memory(),
-            AnyDepacketizer::H265(it) => it.run_memory(),
-            AnyDepacketizer::H266(it) => it.run_memory(),
-        }
-    }
-
     /// The same depacketizer again, with its open run.
     pub fn try_clone(&self) -> Result<Self, PacketError> {
         match self {
@@ -84,20 +74,12 @@ impl AnyDepacketizer {
 
     /// Whether it writes units behind lengths of four bytes, and not behind start codes.
     pub fn is_avc(&self) -> bool {
-        match self {
-            AnyDepacketizer::H264(it) => it.is_avc,
-            AnyDepacketizer::H265(it) => it.is_avc,
-            AnyDepacketizer::H266(it) => it.is_avc,
-        }
+        with_held!(self, |it| it.is_avc)
     }
 
     /// Sets whether it writes units behind lengths or behind start codes.
     pub fn set_avc(&mut self, is_avc: bool) {
-        match self {
-            AnyDepacketizer::H264(it) => it.is_avc = is_avc,
-            AnyDepacketizer::H265(it) => it.is_avc = is_avc,
-            AnyDepacketizer::H266(it) => it.is_avc = is_avc,
-        }
+        with_held!(self, |it| it.is_avc = is_avc)
     }
 
     /// Sets whether packets bear decoding order numbers; that of H.264 stays as it is.
@@ -120,22 +102,14 @@ impl AnyDepacketizer {
         out: &mut W,
         codec_extra: &mut CodecExtra,
     ) -> Result<(), PacketError> {
-        match self {
-            AnyDepacketizer::H264(it) => it.depacketize_into(packet, out, codec_extra),
-            AnyDepacketizer::H265(it) => it.depacketize_into(packet, out, codec_extra),
-            AnyDepacketizer::H266(it) => it.depacketize_into(packet, out, codec_extra),
-        }
+        with_held!(self, |it| it.depacketize_into(packet, out, codec_extra))
     }
 }
 
 impl Depacketizer for AnyDepacketizer {
     /// As the depacketizer that it holds says.
     fn out_size_hint(&self, packets_size: usize) -> Option<usize> {
-        match self {
-            AnyDepacketizer::H264(it) => it.out_size_hint(packets_size),
-            AnyDepacketizer::H265(it) => it.out_size_hint(packets_size),
-            AnyDepacketizer::H266(it) => it.out_size_hint(packets_size),
-        }
+        with_held!(self, |it| it.out_size_hint(packets_size))
     }
 
     /// Takes a packet, as the depacketizer that it holds does. A refusal leaves everything; the errors
@@ -151,54 +125,30 @@ impl Depacketizer for AnyDepacketizer {
 
     /// Whether `packet` may be the first of an access unit, as the depacketizer that it holds says.
     fn is_partition_head(&self, packet: &[u8]) -> bool {
-        match self {
-            AnyDepacketizer::H264(it) => it.is_partition_head(packet),
-            AnyDepacketizer::H265(it) => it.is_partition_head(packet),
-            AnyDepacketizer::H266(it) => it.is_partition_head(packet),
-        }
+        with_held!(self, |it| it.is_partition_head(packet))
     }
 
     /// Whether `packet` is the last of an access unit, as the depacketizer that it holds says.
     fn is_partition_tail(&self, marker: bool, packet: &[u8]) -> bool {
-        match self {
-            AnyDepacketizer::H264(it) => it.is_partition_tail(marker, packet),
-            AnyDepacketizer::H265(it) => it.is_partition_tail(marker, packet),
-            AnyDepacketizer::H266(it) => it.is_partition_tail(marker, packet),
-        }
+        with_held!(self, |it| it.is_partition_tail(marker, packet))
     }
 }
 
 impl RunDepacketizer for AnyDepacketizer {
     fn is_avc(&self) -> bool {
-        match self {
-            AnyDepacketizer::H264(depacketizer) => depacketizer.is_avc,
-            AnyDepacketizer::H265(depacketizer) => depacketizer.is_avc,
-            AnyDepacketizer::H266(depacketizer) => depacketizer.is_avc,
-        }
+        with_held!(self, |depacketizer| depacketizer.is_avc)
     }
 
     fn run_len(&self) -> usize {
-        match self {
-            AnyDepacketizer::H264(it) => it.run_len(),
-            AnyDepacketizer::H265(it) => it.run_len(),
-            AnyDepacketizer::H266(it) => it.run_len(),
-        }
+        with_held!(self, |it| it.run_len())
     }
 
     fn swap_run(&mut self, run: &mut OpenRun) {
-        match self {
-            AnyDepacketizer::H264(it) => it.swap_run(run),
-            AnyDepacketizer::H265(it) => it.swap_run(run),
-            AnyDepacketizer::H266(it) => it.swap_run(run),
-        }
+        with_held!(self, |it| it.swap_run(run))
     }
 
     fn give_up_run(&mut self) {
-        match self {
-            AnyDepacketizer::H264(it) => it.give_up_run(),
-            AnyDepacketizer::H265(it) => it.give_up_run(),
-            AnyDepacketizer::H266(it) => it.give_up_run(),
-        }
+        with_held!(self, |it| it.give_up_run())
     }
 
     #[inline]
@@ -219,42 +169,27 @@ impl RunDepacketizer for AnyDepacketizer {
         text: &mut OpenText,
         codec_extra: &mut CodecExtra,
     ) -> Result<(), PacketError> {
-        match self {
-            AnyDepacketizer::H264(it) => it.depacketize_in_text(rule, packet, text, codec_extra),
-            AnyDepacketizer::H265(it) => it.depacketize_in_text(rule, packet, text, codec_extra),
-            AnyDepacketizer::H266(it) => it.depacketize_in_text(rule, packet, text, codec_extra),
-        }
+        with_held!(self, |it| it.depacketize_in_text(
+            rule,
+            packet,
+            text,
+            codec_extra
+        ))
     }
 
     fn starts_run(&self, packet: &[u8]) -> bool {
-        match self {
-            AnyDepacketizer::H264(it) => it.starts_run(packet),
-            AnyDepacketizer::H265(it) => it.starts_run(packet),
-            AnyDepacketizer::H266(it) => it.starts_run(packet),
-        }
+        with_held!(self, |it| it.starts_run(packet))
     }
 
     fn extra(&self, key: bool) -> CodecExtra {
-        match self {
-            AnyDepacketizer::H264(it) => it.extra(key),
-            AnyDepacketizer::H265(it) => it.extra(key),
-            AnyDepacketizer::H266(it) => it.extra(key),
-        }
+        with_held!(self, |it| it.extra(key))
     }
 
     fn bears_unit<T: UnitTest>(&self, packet: &[u8], test: &T) -> bool {
-        match self {
-            AnyDepacketizer::H264(it) => it.bears_unit(packet, test),
-            AnyDepacketizer::H265(it) => it.bears_unit(packet, test),
-            AnyDepacketizer::H266(it) => it.bears_unit(packet, test),
-        }
+        with_held!(self, |it| it.bears_unit(packet, test))
     }
 
     fn first_unit_begun(&self, packet: &[u8]) -> Option<[u8; 3]> {
-        match self {
-            AnyDepacketizer::H264(it) => it.first_unit_begun(packet),
-            AnyDepacketizer::H265(it) => it.first_unit_begun(packet),
-            AnyDepacketizer::H266(it) => it.first_unit_begun(packet),
-        }
+        with_held!(self, |it| it.first_unit_begun(packet))
     }
 }

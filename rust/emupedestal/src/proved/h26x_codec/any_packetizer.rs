@@ -2,7 +2,7 @@
 
 //! A packetizer of one of the codecs, chosen when it is made.
 
-use crate::proved::h26x_codec::codec::Codec;
+use crate::proved::h26x_codec::codec::{Codec, with_held};
 use crate::proved::h26x_core::PacketError;
 use crate::proved::h26x_packetizer::{
     EveryUnitError, PacketBuffer, PacketsSize, Packing, Placement,
@@ -10,7 +10,6 @@ use crate::proved::h26x_packetizer::{
 use crate::proved::h264_payload::H264Packetizer;
 use crate::proved::h265_payload::H265Packetizer;
 use crate::proved::h266_payload::H266Packetizer;
-use alloc::vec::Vec;
 
 /// A packetizer of one of the codecs, chosen when it is made, which may go from thread to thread.
 /// Every call goes to the one that it holds.
@@ -62,6 +61,15 @@ impl AnyPacketizer {
         }
     }
 
+    /// Sets whether parameter sets that share a packet of H.265 have the header of their own, or that
+    /// of the unit behind them (RFC 7798, 4.4.2); every other codec's stay as they are.
+    pub fn with_lowest_header(&mut self, lowest_header: bool) {
+        match self {
+            AnyPacketizer::H265(it) => it.with_lowest_header(lowest_header),
+            AnyPacketizer::H264(_) | AnyPacketizer::H266(_) => {}
+        }
+    }
+
     /// Sets the largest packet size, in bytes; that of H.264 stays as it is.
     ///
     /// # Panics
@@ -83,11 +91,7 @@ impl AnyPacketizer {
         payload: &[u8],
         into: &mut PacketBuffer,
     ) -> Result<(), PacketError> {
-        match self {
-            AnyPacketizer::H264(it) => it.packetize_into(mtu, payload, into),
-            AnyPacketizer::H265(it) => it.packetize_into(mtu, payload, into),
-            AnyPacketizer::H266(it) => it.packetize_into(mtu, payload, into),
-        }
+        with_held!(self, |it| it.packetize_into(mtu, payload, into))
     }
 
     /// Appends the packets of one unit as it is; a refusal leaves those that stood in the buffer.
@@ -97,26 +101,7 @@ impl AnyPacketizer {
         unit: &[u8],
         into: &mut PacketBuffer,
     ) -> Result<(), PacketError> {
-        match self {
-            AnyPacketizer::H264(it) => it.packetize_unit_into(mtu, unit, into),
-            AnyPacketizer::H265(it) => it.packetize_unit_into(mtu, unit, into),
-            AnyPacketizer::H266(it) => it.packetize_unit_into(mtu, unit, into),
-        }
-    }
-
-    /// The packets of the units of one access unit, none of which is left out, in order and as they
-    /// are. The first that can't go is named, and nothing is sent then.
-    pub fn packetize_units<'a>(
-        &mut self,
-        packing: Packing,
-        mtu: usize,
-        units: &'a [&'a [u8]],
-    ) -> Result<Vec<Vec<u8>>, EveryUnitError> {
-        match self {
-            AnyPacketizer::H264(it) => it.packetize_units(packing, mtu, units),
-            AnyPacketizer::H265(it) => it.packetize_units(packing, mtu, units),
-            AnyPacketizer::H266(it) => it.packetize_units(packing, mtu, units),
-        }
+        with_held!(self, |it| it.packetize_unit_into(mtu, unit, into))
     }
 
     /// Appends the packets of units to a buffer; a refusal leaves those that stood there.
@@ -127,11 +112,8 @@ impl AnyPacketizer {
         units: &'a [&'a [u8]],
         into: &mut PacketBuffer,
     ) -> Result<(), EveryUnitError> {
-        match self {
-            AnyPacketizer::H264(it) => it.packetize_units_into(packing, mtu, units, into),
-            AnyPacketizer::H265(it) => it.packetize_units_into(packing, mtu, units, into),
-            AnyPacketizer::H266(it) => it.packetize_units_into(packing, mtu, units, into),
-        }
+        with_held!(self, |it| it
+            .packetize_units_into(packing, mtu, units, into))
     }
 
     /// How much memory the packets of a payload take, each behind so many bytes. Nothing changes.
@@ -141,11 +123,7 @@ impl AnyPacketizer {
         payload: &[u8],
         headroom: usize,
     ) -> Result<PacketsSize, PacketError> {
-        match self {
-            AnyPacketizer::H264(it) => it.packets_size(mtu, payload, headroom),
-            AnyPacketizer::H265(it) => it.packets_size(mtu, payload, headroom),
-            AnyPacketizer::H266(it) => it.packets_size(mtu, payload, headroom),
-        }
+        with_held!(self, |it| it.packets_size(mtu, payload, headroom))
     }
 
     /// How much memory the packets of units take, each behind so many bytes. Nothing changes, and the
@@ -157,11 +135,7 @@ impl AnyPacketizer {
         units: &'a [&'a [u8]],
         headroom: usize,
     ) -> Result<PacketsSize, EveryUnitError> {
-        match self {
-            AnyPacketizer::H264(it) => it.units_size(packing, mtu, units, headroom),
-            AnyPacketizer::H265(it) => it.units_size(packing, mtu, units, headroom),
-            AnyPacketizer::H266(it) => it.units_size(packing, mtu, units, headroom),
-        }
+        with_held!(self, |it| it.units_size(packing, mtu, units, headroom))
     }
 
     /// Copies the packets of a payload straight to memory where they fit; else nothing is done.
@@ -173,11 +147,8 @@ impl AnyPacketizer {
         to: &mut [u8],
         ends: &mut [usize],
     ) -> Result<Placement, PacketError> {
-        match self {
-            AnyPacketizer::H264(it) => it.packetize_to_memory(mtu, payload, headroom, to, ends),
-            AnyPacketizer::H265(it) => it.packetize_to_memory(mtu, payload, headroom, to, ends),
-            AnyPacketizer::H266(it) => it.packetize_to_memory(mtu, payload, headroom, to, ends),
-        }
+        with_held!(self, |it| it
+            .packetize_to_memory(mtu, payload, headroom, to, ends))
     }
 
     /// Copies the packets of one unit as it is straight to memory where they fit; else nothing is
@@ -190,11 +161,8 @@ impl AnyPacketizer {
         to: &mut [u8],
         ends: &mut [usize],
     ) -> Result<Placement, PacketError> {
-        match self {
-            AnyPacketizer::H264(it) => it.packetize_unit_to_memory(mtu, unit, headroom, to, ends),
-            AnyPacketizer::H265(it) => it.packetize_unit_to_memory(mtu, unit, headroom, to, ends),
-            AnyPacketizer::H266(it) => it.packetize_unit_to_memory(mtu, unit, headroom, to, ends),
-        }
+        with_held!(self, |it| it
+            .packetize_unit_to_memory(mtu, unit, headroom, to, ends))
     }
 
     /// Copies the packets of units straight to memory where they fit; else nothing is done.
@@ -207,16 +175,7 @@ impl AnyPacketizer {
         to: &mut [u8],
         ends: &mut [usize],
     ) -> Result<Placement, EveryUnitError> {
-        match self {
-            AnyPacketizer::H264(it) => {
-                it.packetize_units_to_memory(packing, mtu, units, headroom, to, ends)
-            }
-            AnyPacketizer::H265(it) => {
-                it.packetize_units_to_memory(packing, mtu, units, headroom, to, ends)
-            }
-            AnyPacketizer::H266(it) => {
-                it.packetize_units_to_memory(packing, mtu, units, headroom, to, ends)
-            }
-        }
+        with_held!(self, |it| it
+            .packetize_units_to_memory(packing, mtu, units, headroom, to, ends))
     }
 }

@@ -45,12 +45,6 @@ impl AnyPayloadDepacketizer {
         self.codec
     }
 
-    /// How many bytes of memory it keeps for runs: twice the open run at most, or 2^20 bytes. It keeps
-    /// no other memory.
-    pub fn run_memory(&self) -> usize {
-        self.run.memory()
-    }
-
     /// The same depacketizer again, with its open run. With none it takes no memory.
     pub fn try_clone(&self) -> Result<Self, PacketError> {
         Ok(AnyPayloadDepacketizer {

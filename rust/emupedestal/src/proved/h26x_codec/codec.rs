@@ -25,3 +25,16 @@ impl Codec {
         }
     }
 }
+
+/// What is done with the end that another holds, of whichever codec it is.
+macro_rules! with_held {
+    ($end:expr, |$it:ident| $call:expr) => {
+        match $end {
+            Self::H264($it) => $call,
+            Self::H265($it) => $call,
+            Self::H266($it) => $call,
+        }
+    };
+}
+
+pub(crate) use with_held;

@@ -24,11 +24,13 @@ pub trait Packetizer: fmt::Debug {
 
     /// Whether the marker bit marks the start of a talkspurt (RFC 3551, 4.1). It does so for no
     /// video codec; an audio codec says otherwise.
+    #[allow(dead_code, reason = "tests have it")]
     fn marks_talkspurt(&self) -> bool {
         false
     }
 
     /// Whether a receiver may ask for a lost packet again, by a generic NACK (RFC 4585, 6.2.1).
+    #[allow(dead_code, reason = "tests have it")]
     fn nackable(&self) -> bool {
         true
     }

@@ -9,6 +9,7 @@ use core::ops::Range;
 
 /// The units of a payload that are left, in order, as slices of it (Annex B of H.264, H.265 and
 /// H.266).
+#[derive(Clone)]
 pub struct UnitSlices<'a> {
     /// What stands behind the last start code that was passed.
     rest: &'a [u8],
@@ -80,6 +81,7 @@ pub fn units(payload: &[u8], rule: ZeroRule) -> UnitSlices<'_> {
 /// From 0 on it finds the first unit, and from the end of one the next, so that a caller who can't
 /// keep slices goes through the units of [`units`] by their places. `None` where no unit is left. It
 /// takes no memory and refuses nothing (Annex B of H.264, H.265 and H.266).
+#[allow(dead_code, reason = "the C library has it")]
 pub fn next_unit(payload: &[u8], rule: ZeroRule, from: usize) -> Option<Range<usize>> {
     let behind = payload.get(from..)?;
     let mut rest = match first_code(behind) {

@@ -71,33 +71,89 @@ pub fn write_unit<W: UnitSink>(is_avc: bool, unit: &[u8], out: &mut W) -> Result
     }
 }
 
+/// What stands before a unit's data: the start code or the length, and its header behind that.
+#[inline(always)]
+fn lead_of(prefix: [u8; 4], head: [u8; 2]) -> [u8; 6] {
+    [prefix[0], prefix[1], prefix[2], prefix[3], head[0], head[1]]
+}
+
+/// Writes what stands before the data of a unit of this length, with a header of so many of these
+/// bytes, where there is room for it. It is one copy of few bytes, whose number the compiler knows,
+/// which takes no call.
+#[inline(always)]
+fn put_lead<W: UnitSink>(is_avc: bool, len: usize, head: [u8; 2], head_len: usize, out: &mut W) {
+    let lead = lead_of(prefix_of(is_avc, len), head);
+    out.put(&lead[..PREFIX_SIZE + head_len]);
+}
+
 /// Writes a unit of these parts, where there is room for it.
-fn put_parts<W: UnitSink>(is_avc: bool, head: &[u8], run: &[u8], body: &[u8], out: &mut W) {
-    put_prefix(is_avc, head.len() + run.len() + body.len(), out);
-    out.put(head);
+#[inline(always)]
+fn put_parts<W: UnitSink>(
+    is_avc: bool,
+    head: [u8; 2],
+    head_len: usize,
+    run: &[u8],
+    body: &[u8],
+    out: &mut W,
+) {
+    put_lead(
+        is_avc,
+        head_len + run.len() + body.len(),
+        head,
+        head_len,
+        out,
+    );
     if !run.is_empty() {
         out.put(run);
     }
     out.put(body);
 }
 
-/// Writes a unit of these parts, as `write_unit` does: its header, the data of its run, and the last
-/// of its data (RFC 6184, 5.8; RFC 7798, 4.4.3; RFC 9328, 4.3.3).
+/// Writes a unit of these parts, as `write_unit` does: its header, which has so many of these bytes,
+/// the data of its run, and the last of its data (RFC 6184, 5.8; RFC 7798, 4.4.3; RFC 9328, 4.3.3).
+///
+/// # Panics
+///
+/// Unless `head_len <= 2`.
+#[inline(always)]
 pub fn write_parts<W: UnitSink>(
     is_avc: bool,
-    head: &[u8],
+    head: [u8; 2],
+    head_len: usize,
     run: &[u8],
     body: &[u8],
     out: &mut W,
 ) -> Result<(), PacketError> {
-    let len = head
-        .len()
+    assert!(head_len <= 2);
+    let len = head_len
         .saturating_add(run.len())
         .saturating_add(body.len());
     if is_avc && is_too_long(len) {
         return Err(PacketError::AvcUnitTooLong);
     }
     out.try_reserve(len.saturating_add(PREFIX_SIZE))?;
-    put_parts(is_avc, head, run, body, out);
+    put_parts(is_avc, head, head_len, run, body, out);
     Ok(())
+}
+
+/// Writes a unit of a header, which has so many of these bytes, and of what stands behind it, as
+/// `write_unit` does. Each form is a copy of its own here too.
+///
+/// # Panics
+///
+/// Unless `head_len <= 2`.
+#[inline(always)]
+pub fn write_headed<W: UnitSink>(
+    is_avc: bool,
+    head: [u8; 2],
+    head_len: usize,
+    body: &[u8],
+    out: &mut W,
+) -> Result<(), PacketError> {
+    assert!(head_len <= 2);
+    if is_avc {
+        write_parts(true, head, head_len, &[], body, out)
+    } else {
+        write_parts(false, head, head_len, &[], body, out)
+    }
 }

@@ -57,12 +57,6 @@ impl<C: PacketReader, S: Shows<C>> PayloadDepacketizer<C, S> {
         self.run.len()
     }
 
-    /// How many bytes of memory it keeps for runs: twice the open run at most, or 2^20 bytes. What
-    /// `payload` shows, and will show, is not counted.
-    pub fn run_memory(&self) -> usize {
-        self.run.memory()
-    }
-
     /// Exchanges the open run, or none, for another one. It takes no memory.
     pub fn swap_run(&mut self, run: &mut OpenRun) {
         mem::swap(&mut self.run, run);

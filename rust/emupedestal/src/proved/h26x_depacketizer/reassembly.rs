@@ -38,10 +38,14 @@ pub(crate) fn take_fragment<C: PayloadFormat, W: UnitSink>(
         return Ok(());
     }
     if fragment.end {
-        let head = &fragment.head[..codec.header_len()];
+        let head_len = codec.header_len();
         let data = if fragment.start { &[] } else { run.bytes() };
-        write_parts(is_avc, head, data, fragment.body, out)?;
-        *codec_extra = told(codec, *codec_extra, codec.is_key(head));
+        write_parts(is_avc, fragment.head, head_len, data, fragment.body, out)?;
+        *codec_extra = told(
+            codec,
+            *codec_extra,
+            codec.is_key(&fragment.head[..head_len]),
+        );
         run.close();
     } else if fragment.start {
         run.begin(fragment.body)?;

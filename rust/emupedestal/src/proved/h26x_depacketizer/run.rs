@@ -35,15 +35,36 @@ fn put_at(bytes: &mut [u8], at: usize, body: &[u8]) {
     bytes[at..at + body.len()].copy_from_slice(body);
 }
 
-/// Has these data in a buffer from here on. Where it is too small another one takes its place, at least
-/// twice as large. The answer is where they end.
+/// How many bytes a buffer has that takes the place of a smaller one, for data that end there: twice as
+/// many, but where a closed run keeps it no more than that keeps, so that a run of a megabyte has its
+/// memory again.
 #[inline]
+fn grown_size(room: usize, end: usize) -> usize {
+    let doubled = room.saturating_mul(2);
+    if end > KEPT_MEMORY {
+        end.max(doubled)
+    } else {
+        end.max(doubled.min(KEPT_MEMORY))
+    }
+}
+
+/// Has these data from here on in another buffer, since this one is too small. Out of the way of those
+/// for which there is room.
+#[cold]
+#[inline(never)]
+fn grow(bytes: &mut Vec<u8>, at: usize, body: &[u8]) -> Result<(), PacketError> {
+    let size = grown_size(bytes.len(), at + body.len());
+    *bytes = memory_of(size, &bytes[..at], body)?;
+    Ok(())
+}
+
+/// Has these data in a buffer from here on. Where it is too small another one takes its place. The
+/// answer is where they end.
+#[inline(always)]
 fn put(bytes: &mut Vec<u8>, at: usize, body: &[u8]) -> Result<usize, PacketError> {
-    let room = bytes.len();
     let end = at + body.len();
-    if end > room {
-        let size = end.max(room.saturating_mul(2));
-        *bytes = memory_of(size, &bytes[..at], body)?;
+    if end > bytes.len() {
+        grow(bytes, at, body)?;
     } else {
         put_at(bytes, at, body);
     }
@@ -108,18 +129,14 @@ impl OpenRun {
         self.len
     }
 
-    /// How many bytes of memory its buffer has, data or not: twice its data at most, or 2^20.
-    pub fn memory(&self) -> usize {
-        self.bytes.capacity()
-    }
-
     /// The same, if a run is open.
     #[inline]
     pub fn open_len(&self) -> Option<usize> {
         if self.is_open { Some(self.len) } else { None }
     }
 
-    /// Adds these data to the open run.
+    /// Adds these data to the open run. A copy behind the others, without a call, where there is room.
+    #[inline(always)]
     pub(crate) fn extend(&mut self, body: &[u8]) -> Result<(), PacketError> {
         self.len = put(&mut self.bytes, self.len, body)?;
         Ok(())

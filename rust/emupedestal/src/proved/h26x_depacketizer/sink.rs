@@ -18,7 +18,7 @@ pub(crate) trait UnitSink {
 impl UnitSink for Vec<u8> {
     #[inline(always)]
     fn try_reserve(&mut self, count: usize) -> Result<(), AllocError> {
-        Ok(Vec::try_reserve(self, count)?)
+        crate::support::try_reserve(self, count)
     }
 
     #[inline(always)]

@@ -4,7 +4,7 @@
 
 use crate::proved::h26x_core::{CodecExtra, PacketError};
 use crate::proved::h26x_depacketizer::aggregate::write_units;
-use crate::proved::h26x_depacketizer::byte_stream::{is_too_long, write_parts, write_unit};
+use crate::proved::h26x_depacketizer::byte_stream::{is_too_long, write_headed, write_unit};
 use crate::proved::h26x_depacketizer::extra::told;
 use crate::proved::h26x_depacketizer::parts::Parts;
 use crate::proved::h26x_depacketizer::reader::PacketReader;
@@ -99,9 +99,9 @@ pub(crate) fn take_parts<C: PacketReader, W: UnitSink>(
             Ok(())
         }
         Parts::Unit { head, body } => {
-            let head = &head[..codec.header_len()];
-            write_parts(is_avc, head, &[], body, out)?;
-            *codec_extra = told(codec, *codec_extra, codec.is_key(head));
+            let head_len = codec.header_len();
+            write_headed(is_avc, head, head_len, body, out)?;
+            *codec_extra = told(codec, *codec_extra, codec.is_key(&head[..head_len]));
             Ok(())
         }
         Parts::Aggregate { bytes, size } => {

@@ -60,6 +60,7 @@ impl PacketBuffer {
     }
 
     /// Whether it holds none.
+    #[allow(dead_code, reason = "tests have it")]
     pub fn is_empty(&self) -> bool {
         self.ends.is_empty()
     }
@@ -93,35 +94,41 @@ impl PacketBuffer {
     }
 
     /// The packet at a place.
+    #[allow(dead_code, reason = "the C library has it")]
     pub(crate) fn packet(&self, place: usize) -> &[u8] {
         let (start, end) = bounds_of(self.headroom, &self.bytes, &self.ends, place);
         &self.bytes[start..end]
     }
 
     /// The packet at a place behind its headroom.
+    #[allow(dead_code, reason = "tests have it")]
     pub(crate) fn with_headroom(&self, place: usize) -> &[u8] {
         let (start, end) = bounds_of(self.headroom, &self.bytes, &self.ends, place);
         &self.bytes[start - self.headroom..end]
     }
 
     /// The packets, in order.
+    #[allow(dead_code, reason = "tests have it")]
     pub fn iter(&self) -> BufferPackets<'_> {
         BufferPackets::new(&self.bytes, &self.ends, self.headroom)
     }
 
     /// All bytes as they lie: the packets behind each other, each behind its headroom.
+    #[allow(dead_code, reason = "the C library has it")]
     pub fn bytes(&self) -> &[u8] {
         &self.bytes
     }
 
     /// The places of [`bytes`](PacketBuffer::bytes) where packets end. Each begins where the one
     /// before it ends, with its headroom.
+    #[allow(dead_code, reason = "the C library has it")]
     pub fn packet_ends(&self) -> &[usize] {
         &self.ends
     }
 
     /// Writes a header right before the packet at a place, over the last bytes of its headroom; all
     /// else stays, and the headrooms of the other packets.
+    #[allow(dead_code, reason = "tests have it")]
     pub(crate) fn write_header(&mut self, place: usize, header: &[u8]) {
         let (start, _) = bounds_of(self.headroom, &self.bytes, &self.ends, place);
         self.bytes[start - header.len()..start].copy_from_slice(header);
@@ -136,6 +143,7 @@ impl PacketBuffer {
     }
 
     /// Drops every packet, and keeps the memory.
+    #[allow(dead_code, reason = "tests have it")]
     pub fn clear(&mut self) {
         self.bytes.clear();
         self.ends.clear();
@@ -157,6 +165,7 @@ impl PacketBuffer {
 
     /// Appends a packet behind its headroom, which is of zeros. Only want of memory refuses it, and
     /// leaves the packets. Memory grows to twice what it was, and only where there is none left.
+    #[allow(dead_code, reason = "tests have it")]
     pub(crate) fn try_push(&mut self, packet: &[u8]) -> Result<(), AllocError> {
         let mut made = Appending::from_buffer(self);
         match made.push_packet(packet) {
@@ -169,6 +178,7 @@ impl PacketBuffer {
     }
 
     /// Appends packets, each behind its headroom of zeros: all of them, or none where memory lacks.
+    #[allow(dead_code, reason = "tests have it")]
     pub(crate) fn push_all(&mut self, packets: &[Vec<u8>]) -> Result<(), AllocError> {
         let mut made = Appending::from_buffer(self);
         match made.push_packets(packets) {
@@ -181,6 +191,7 @@ impl PacketBuffer {
     }
 
     /// Reserves room for so many packets more, but none for their bytes.
+    #[allow(dead_code, reason = "tests have it")]
     pub(crate) fn try_reserve(&mut self, count: usize) -> Result<(), AllocError> {
         make_room(&mut self.ends, count, FIRST_ENDS)
     }
@@ -241,12 +252,14 @@ impl Appending {
 }
 
 impl<'a> PacketSink<'a> for Appending {
+    #[allow(dead_code, reason = "tests have it")]
     #[inline(always)]
     fn try_push(&mut self, header: &[u8], donl: &[u8], body: Body<'a>) -> Result<(), AllocError> {
         self.buffer.push_parts(header, donl, body)
     }
 
     /// None: the buffer grows with its packets, and so has no memory for those that don't come.
+    #[allow(dead_code, reason = "tests have it")]
     #[inline(always)]
     fn try_reserve(&mut self, _count: usize) -> Result<(), AllocError> {
         Ok(())

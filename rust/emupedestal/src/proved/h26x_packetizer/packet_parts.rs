@@ -100,6 +100,6 @@ impl<'a> PacketSink<'a> for Vec<PacketParts<'a>> {
     #[inline(always)]
     fn try_reserve(&mut self, count: usize) -> Result<(), AllocError> {
         let least = if self.is_empty() { FIRST_PARTS } else { 0 };
-        Ok(Vec::try_reserve(self, count.max(least))?)
+        crate::support::try_reserve(self, count.max(least))
     }
 }

@@ -107,11 +107,6 @@ impl<C: PayloadFormat> PayloadPacketizer<C> {
         }
     }
 
-    /// Its codec's setting.
-    pub fn codec(&self) -> C {
-        self.codec
-    }
-
     /// A packetizer with the same setting, sets that wait, next number and largest packet size.
     /// `OutOfMemory` is its only error.
     pub fn try_clone(&self) -> Result<Self, PacketError> {

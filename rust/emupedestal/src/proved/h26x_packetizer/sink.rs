@@ -35,6 +35,6 @@ impl<'a> PacketSink<'a> for Vec<Vec<u8>> {
     #[inline(always)]
     fn try_reserve(&mut self, count: usize) -> Result<(), AllocError> {
         let least = if self.is_empty() { FIRST_PACKETS } else { 0 };
-        Ok(Vec::try_reserve(self, count.max(least))?)
+        crate::support::try_reserve(self, count.max(least))
     }
 }

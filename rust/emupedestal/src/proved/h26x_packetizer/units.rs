@@ -119,6 +119,7 @@ fn push_sets<'a, C: PayloadFormat, S: PacketSink<'a>>(
 }
 
 /// Appends the packets of what goes when a unit comes.
+#[inline(always)]
 pub(crate) fn push_outgoing<'a, C: PayloadFormat, S: PacketSink<'a>>(
     codec: C,
     limit: usize,

@@ -163,11 +163,13 @@ impl ReorderBuffer {
     }
 
     /// Whether it holds none.
+    #[inline]
     pub fn is_empty(&self) -> bool {
         self.held.is_empty()
     }
 
     /// The number that is due: the next one to go where none is missing. None before a packet came.
+    #[inline]
     pub fn due(&self) -> Option<u16> {
         self.held.due()
     }
@@ -180,6 +182,7 @@ impl ReorderBuffer {
 
     /// The first of the packets held, which stays: one that is taken elsewhere, where memory may lack,
     /// is looked at here and popped once it was taken.
+    #[inline]
     pub fn first(&self) -> Option<&HeldPacket> {
         self.held.first()
     }
@@ -190,6 +193,7 @@ impl ReorderBuffer {
     }
 
     /// Whether the first of the packets held may go, so that `pop` gives it out.
+    #[inline]
     pub fn is_ready(&self) -> bool {
         self.held.is_ready()
     }

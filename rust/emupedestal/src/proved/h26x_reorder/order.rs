@@ -196,9 +196,24 @@ impl<T: Numbered> NumberOrder<T> {
         self.due = Some(number.wrapping_add(1));
     }
 
-    /// Whether the first packet may go.
+    /// Whether the first packet may go. Where it is the one that is due the last is not looked at.
     #[inline]
     pub(crate) fn is_ready(&self) -> bool {
+        self.has_due() || self.is_ready_by_window()
+    }
+
+    /// Whether the packet that is due is held, which is the first then.
+    #[inline]
+    fn has_due(&self) -> bool {
+        match (self.due, self.held.first()) {
+            (Some(due), Some(first)) => first.sequence() == due,
+            _ => false,
+        }
+    }
+
+    /// Whether the first packet may go, by the last too.
+    #[inline]
+    fn is_ready_by_window(&self) -> bool {
         match (self.due, self.held.first(), self.held.last()) {
             (Some(due), Some(first), Some(last)) => {
                 let number = first.sequence();

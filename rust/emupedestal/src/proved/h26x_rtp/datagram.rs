@@ -34,21 +34,25 @@ impl<'a> core::fmt::Debug for RtpDatagram<'a> {
 }
 
 /// How many bytes the CSRCs have, by the first byte of a header (RFC 3550, 5.1).
+#[inline(always)]
 fn csrcs_size(first: u8) -> usize {
     4 * usize::from(first & 0x0f)
 }
 
 /// X, by the first byte of a header (RFC 3550, 5.1).
+#[inline(always)]
 fn is_extended(first: u8) -> bool {
     first >> 4 & 1 != 0
 }
 
 /// P, by the first byte of a header (RFC 3550, 5.1).
+#[inline(always)]
 fn is_padded(first: u8) -> bool {
     first >> 5 & 1 != 0
 }
 
 /// So many bytes, and those behind them.
+#[inline(always)]
 fn front(bytes: &[u8], count: usize, fault: RtpError) -> Result<(&[u8], &[u8]), RtpError> {
     if bytes.len() < count {
         return Err(fault);
@@ -57,6 +61,7 @@ fn front(bytes: &[u8], count: usize, fault: RtpError) -> Result<(&[u8], &[u8]), 
 }
 
 /// The header extension, where there is one, and what stands behind it (RFC 3550, 5.3.1).
+#[inline(always)]
 fn read_extension(
     extended: bool,
     bytes: &[u8],
@@ -72,6 +77,7 @@ fn read_extension(
 }
 
 /// Payload and padding (RFC 3550, 5.1).
+#[inline(always)]
 fn read_padding(padded: bool, bytes: &[u8]) -> Result<(&[u8], &[u8]), RtpError> {
     if !padded {
         return Ok((bytes, &[]));
@@ -90,6 +96,7 @@ fn read_padding(padded: bool, bytes: &[u8]) -> Result<(&[u8], &[u8]), RtpError> 
 }
 
 /// The header by the bytes that every header has, and the parts behind them (RFC 3550, 5.1).
+#[inline(always)]
 fn header_of<'a>(
     bytes: &[u8],
     csrcs: &'a [u8],
@@ -107,6 +114,7 @@ fn header_of<'a>(
 }
 
 /// A packet of version 2: by the first 12 bytes what stands behind them (RFC 3550, 5.1).
+#[inline(always)]
 fn read_behind<'a>(bytes: &[u8], rest: &'a [u8]) -> Result<RtpDatagram<'a>, RtpError> {
     let size = csrcs_size(bytes[0]);
     let (csrcs, rest) = front(rest, size, RtpError::CsrcsPastTheEnd)?;
@@ -121,6 +129,7 @@ fn read_behind<'a>(bytes: &[u8], rest: &'a [u8]) -> Result<RtpDatagram<'a>, RtpE
 }
 
 /// A packet, or why the bytes are none (RFC 3550, 5.1).
+#[inline(always)]
 fn read_datagram(bytes: &[u8]) -> Result<RtpDatagram<'_>, RtpError> {
     if bytes.len() < FIXED_SIZE {
         return Err(RtpError::TooShort);
@@ -135,6 +144,7 @@ fn read_datagram(bytes: &[u8]) -> Result<RtpDatagram<'_>, RtpError> {
 
 impl<'a> RtpDatagram<'a> {
     /// Reads an RTP packet, or says why the bytes are none (RFC 3550, 5.1).
+    #[inline(always)]
     pub fn read(bytes: &'a [u8]) -> Result<RtpDatagram<'a>, RtpError> {
         read_datagram(bytes)
     }

@@ -193,6 +193,13 @@ impl<'a> RedBlock<'a> {
     }
 }
 
+impl<'a> RedBlocks<'a> {
+    /// How many are left.
+    pub fn left(&self) -> usize {
+        self.headers.len() / HEADER_SIZE
+    }
+}
+
 /// The next block of headers, and what is left of both.
 fn first_block<'a>(headers: &[u8], bytes: &'a [u8]) -> (RedBlock<'a>, &'a [u8]) {
     let size = size_of(headers[2], headers[3]);

@@ -67,6 +67,7 @@ fn fraction_of(expected: u64, received: u64) -> u8 {
 }
 
 /// By how much two transit times differ (RFC 3550, A.8).
+#[inline(always)]
 fn difference(before: u32, transit: u32) -> u32 {
     let ahead = transit.wrapping_sub(before);
     let behind = before.wrapping_sub(transit);
@@ -74,6 +75,7 @@ fn difference(before: u32, transit: u32) -> u32 {
 }
 
 /// Sixteen times the jitter, by a transit time more (RFC 3550, A.8).
+#[inline(always)]
 fn jitter_after(before: Option<u32>, transit: u32, jitter: u64) -> u64 {
     match before {
         Some(before) => {
@@ -103,6 +105,7 @@ impl RtpStatistics {
     }
 
     /// Whether a number goes on behind the highest.
+    #[inline(always)]
     fn goes_on(&self, number: u16) -> bool {
         number.wrapping_sub(self.highest) < MAX_DROPOUT
     }
@@ -132,8 +135,28 @@ impl RtpStatistics {
         self.received_before = 0;
     }
 
+    /// Counts one packet as received.
+    #[inline(always)]
+    fn count_one(&mut self) {
+        self.received = self.received.saturating_add(1);
+    }
+
     /// Counts a packet's number; whether the packet counts (RFC 3550, A.1).
+    #[inline(always)]
     fn count_number(&mut self, number: u16) -> bool {
+        if self.received != 0 && self.goes_on(number) {
+            let ahead = number.wrapping_sub(self.highest);
+            self.highest = number;
+            self.expected = self.expected.saturating_add(u64::from(ahead));
+            self.count_one();
+            return true;
+        }
+        self.count_other(number)
+    }
+
+    /// Counts a number that doesn't go on behind the highest, or the first.
+    #[inline(never)]
+    fn count_other(&mut self, number: u16) -> bool {
         if self.begins(number) {
             self.begin(number);
             return true;
@@ -142,16 +165,12 @@ impl RtpStatistics {
             self.after_jump = Some(number.wrapping_add(1));
             return false;
         }
-        if self.goes_on(number) {
-            let ahead = number.wrapping_sub(self.highest);
-            self.highest = number;
-            self.expected = self.expected.saturating_add(u64::from(ahead));
-        }
-        self.received = self.received.saturating_add(1);
+        self.count_one();
         true
     }
 
     /// Counts the arrival of a packet.
+    #[inline(always)]
     fn count_arrival(&mut self, transit: u32, size: usize) {
         self.bytes = self.bytes.saturating_add(size as u64);
         self.jitter = jitter_after(self.transit, transit, self.jitter);
@@ -161,6 +180,7 @@ impl RtpStatistics {
     /// Counts a packet that came, by its number, its timestamp and the bytes of its payload; whether it
     /// counts: one whose number jumps does only where it follows the one that jumped last (RFC 3550,
     /// A.1). `arrival` is when it came, in ticks of the timestamps' clock, which go round at 2^32.
+    #[inline(always)]
     pub fn receive(&mut self, arrival: u32, sequence: u16, timestamp: u32, size: usize) -> bool {
         let counts = self.count_number(sequence);
         if counts {

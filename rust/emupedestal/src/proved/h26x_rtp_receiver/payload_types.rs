@@ -18,6 +18,7 @@ pub struct RtpPayloadTypes {
 }
 
 /// Whether a payload type is this one.
+#[inline(always)]
 fn is_type(payload_type: Option<u8>, it: u8) -> bool {
     match payload_type {
         Some(payload_type) => payload_type == it,
@@ -37,6 +38,14 @@ impl RtpPayloadTypes {
         None
     }
 
+    /// That whose packets bear the codec's payload by themselves.
+    fn plain_type(self) -> Option<u8> {
+        if self.resent_type(self.media).is_some() || self.is_red(self.media) {
+            return None;
+        }
+        Some(self.media)
+    }
+
     /// Whether it is RED.
     pub(crate) fn is_red(self, payload_type: u8) -> bool {
         is_type(self.red, payload_type)
@@ -50,5 +59,35 @@ impl RtpPayloadTypes {
     /// Whether a stream may begin with a packet of it.
     pub(crate) fn begins(self, payload_type: u8) -> bool {
         payload_type == self.media || self.is_red(payload_type)
+    }
+}
+
+/// The payload types of a stream, and which of them is plain, worked out once.
+#[derive(Debug)]
+pub(crate) struct StreamTypes {
+    /// All of them.
+    all: RtpPayloadTypes,
+    /// That whose packets bear the codec's payload by themselves.
+    plain: Option<u8>,
+}
+
+impl StreamTypes {
+    /// Those of a stream.
+    pub(crate) fn new(all: RtpPayloadTypes) -> Self {
+        StreamTypes {
+            all,
+            plain: all.plain_type(),
+        }
+    }
+
+    /// All of them.
+    pub(crate) fn all(&self) -> RtpPayloadTypes {
+        self.all
+    }
+
+    /// Whether packets of this one bear the codec's payload by themselves.
+    #[inline(always)]
+    pub(crate) fn is_plain(&self, payload_type: u8) -> bool {
+        is_type(self.plain, payload_type)
     }
 }

@@ -6,12 +6,14 @@ use crate::proved::h26x_access_units::{
     AccessUnitConfig, AccessUnitReceiver, Counts, NackTimes, Nacks, Pushed, ReceivedAccessUnit,
     Receives,
 };
+use crate::proved::h26x_assembler::UnitsSoFar;
 use crate::proved::h26x_core::PacketError;
 use crate::proved::h26x_depacketizer::RunDepacketizer;
+use crate::proved::h26x_reorder::RtpPacket;
 use crate::proved::h26x_rtp::{ReportBlock, RtpDatagram, RtpHeader, RtpStatistics, is_rtcp};
 use crate::proved::h26x_rtp_receiver::keyframes::KeyframeRequests;
 use crate::proved::h26x_rtp_receiver::original::RtpOriginal;
-use crate::proved::h26x_rtp_receiver::payload_types::RtpPayloadTypes;
+use crate::proved::h26x_rtp_receiver::payload_types::{RtpPayloadTypes, StreamTypes};
 use crate::proved::h26x_rtp_receiver::pushed::{RtpPushError, RtpPushed, RtpTaken};
 use crate::proved::h26x_rtp_receiver::sources::{RtpSources, bears_missing};
 use alloc::vec::Vec;
@@ -19,7 +21,7 @@ use alloc::vec::Vec;
 /// Takes the datagrams of one stream as they come and gives out access units.
 #[derive(Debug)]
 pub struct RtpReceiver<D: RunDepacketizer> {
-    types: RtpPayloadTypes,
+    types: StreamTypes,
     sources: RtpSources,
     receiver: AccessUnitReceiver<D>,
     statistics: RtpStatistics,
@@ -44,7 +46,7 @@ impl<D: RunDepacketizer> RtpReceiver<D> {
     /// the first packet of the codec or of RED. It takes no memory.
     pub(crate) fn new(depacketizer: D, types: RtpPayloadTypes, config: AccessUnitConfig) -> Self {
         RtpReceiver {
-            types,
+            types: StreamTypes::new(types),
             sources: RtpSources::none(),
             receiver: AccessUnitReceiver::new(depacketizer, config),
             statistics: RtpStatistics::new(),
@@ -71,7 +73,7 @@ impl<D: RunDepacketizer> RtpReceiver<D> {
 
     /// Whether a packet is of the stream.
     fn is_followed(&self, packet: RtpDatagram<'_>) -> Result<bool, PacketError> {
-        match self.sources.tell(self.types, packet) {
+        match self.sources.tell(self.types.all(), packet) {
             Some(is_followed) => Ok(is_followed),
             None => {
                 let missing = self.receiver.missing()?;
@@ -82,7 +84,7 @@ impl<D: RunDepacketizer> RtpReceiver<D> {
 
     /// What is told of a packet of another source.
     fn other_source(&self, header: RtpHeader<'_>) -> RtpPushed {
-        if self.types.begins(header.payload_type) {
+        if self.types.all().begins(header.payload_type) {
             RtpPushed::NewSource(header.ssrc)
         } else {
             RtpPushed::OtherSource(header.ssrc)
@@ -97,6 +99,24 @@ impl<D: RunDepacketizer> RtpReceiver<D> {
     /// session may miss the same number at a time, `follow` is to tell it. Without memory all stays as
     /// it was.
     pub fn try_push(
+        &mut self,
+        now: u32,
+        arrival: u32,
+        datagram: &[u8],
+    ) -> Result<RtpPushed, RtpPushError> {
+        if !is_rtcp(datagram) {
+            if let Ok(packet) = RtpDatagram::read(datagram) {
+                if self.is_plain(packet) {
+                    return self.push_plain(now, arrival, packet);
+                }
+            }
+        }
+        self.push_datagram(now, arrival, datagram)
+    }
+
+    /// Takes any datagram.
+    #[inline(never)]
+    fn push_datagram(
         &mut self,
         now: u32,
         arrival: u32,
@@ -125,6 +145,58 @@ impl<D: RunDepacketizer> RtpReceiver<D> {
         }
     }
 
+    /// Whether a packet of the SSRC that is followed bears the codec's payload by itself, as nearly all
+    /// do: neither RTX nor RED is to be undone.
+    #[inline(always)]
+    fn is_plain(&self, packet: RtpDatagram<'_>) -> bool {
+        let header = packet.header;
+        self.sources.is_media(header.ssrc)
+            && self.types.is_plain(header.payload_type)
+            && !packet.payload.is_empty()
+    }
+
+    /// Takes a packet that bears the codec's payload by itself.
+    #[inline(always)]
+    fn push_plain(
+        &mut self,
+        now: u32,
+        arrival: u32,
+        packet: RtpDatagram<'_>,
+    ) -> Result<RtpPushed, RtpPushError> {
+        self.push_itself(now, arrival, packet)
+    }
+
+    /// Takes a packet that brings itself, whose SSRC is known.
+    #[inline(always)]
+    fn push_itself(
+        &mut self,
+        now: u32,
+        arrival: u32,
+        packet: RtpDatagram<'_>,
+    ) -> Result<RtpPushed, RtpPushError> {
+        let header = packet.header;
+        let payload = packet.payload;
+        let original = RtpPacket {
+            sequence: header.sequence,
+            timestamp: header.timestamp,
+            marker: header.marker,
+            payload,
+        };
+        match self.receiver.try_push(now, &original) {
+            Ok(pushed) => {
+                self.statistics
+                    .receive(arrival, header.sequence, header.timestamp, payload.len());
+                Ok(RtpPushed::Packet(RtpTaken {
+                    sequence: header.sequence,
+                    is_recovered: false,
+                    no_media: None,
+                    pushed,
+                }))
+            }
+            Err(e) => Err(RtpPushError::Packet(e)),
+        }
+    }
+
     /// Takes an RTP packet of the stream.
     fn push_followed(
         &mut self,
@@ -132,7 +204,7 @@ impl<D: RunDepacketizer> RtpReceiver<D> {
         arrival: u32,
         packet: RtpDatagram<'_>,
     ) -> Result<RtpPushed, RtpPushError> {
-        match RtpOriginal::read(self.types, packet) {
+        match RtpOriginal::read(self.types.all(), packet) {
             Ok(Some(original)) => self.push_original(now, arrival, packet, original),
             Ok(None) => Ok(RtpPushed::Probe),
             Err(e) => Err(RtpPushError::Red(e)),
@@ -177,11 +249,11 @@ impl<D: RunDepacketizer> RtpReceiver<D> {
     /// The next access unit, if one has ended at this tick, as of an `AccessUnitReceiver`. Call it
     /// until it gives out none, after each `push`, and at `deadline`.
     pub fn next(&mut self, now: u32) -> Result<Option<ReceivedAccessUnit>, PacketError> {
-        let unit = self.receiver.next(now)?;
-        if let Some(unit) = &unit {
+        let unit = self.receiver.next(now);
+        if let Ok(Some(unit)) = &unit {
             self.keyframes = self.keyframes.after(unit.is_clean, unit.is_disposable);
         }
-        Ok(unit)
+        unit
     }
 
     /// The numbers to ask for at this tick by a NACK, which count as asked for: the first so many of
@@ -223,6 +295,12 @@ impl<D: RunDepacketizer> RtpReceiver<D> {
     /// Takes back an access unit that was given out, for its memory.
     pub fn give_back(&mut self, unit: ReceivedAccessUnit) {
         self.receiver.give_back(unit);
+    }
+
+    /// The NAL units that came whole so far of the access unit that is open, as those of an
+    /// `AccessUnitReceiver`.
+    pub fn units_so_far(&self) -> Option<UnitsSoFar<'_>> {
+        self.receiver.units_so_far()
     }
 
     /// When to call `next` again at the latest, in the receiver's ticks, if packets wait.

@@ -42,6 +42,15 @@ impl RtpSources {
         }
     }
 
+    /// Whether an SSRC is known to be that of the stream's packets.
+    #[inline(always)]
+    pub(crate) fn is_media(self, ssrc: u32) -> bool {
+        let Some(media) = self.media else {
+            return false;
+        };
+        media == ssrc
+    }
+
     /// Whether a packet is of the stream, where that is told by its SSRC.
     pub(crate) fn tell(self, types: RtpPayloadTypes, packet: RtpDatagram<'_>) -> Option<bool> {
         let header = packet.header;

@@ -2,7 +2,7 @@
 
 //! What is counted of packets that were sent (RFC 3550, 6.4.1).
 
-use crate::proved::h26x_packetizer::PacketBuffer;
+use crate::proved::h26x_rtp_sender::payloads::Payloads;
 
 /// What a sender report tells of an SSRC, in 32 bits each (RFC 3550, 6.4.1). Counts stay at 2^64 - 1.
 #[derive(Debug, Clone, Copy, PartialEq, Eq)]
@@ -30,10 +30,10 @@ impl SentCount {
         }
     }
 
-    /// Once these payloads were sent.
-    pub(crate) fn with_all(self, packets: &PacketBuffer) -> Self {
+    /// Once payloads were sent that end at these places of memory.
+    pub(crate) fn with_all(self, headroom: usize, ends: &[usize], bytes: &[u8]) -> Self {
         let mut count = self;
-        for payload in packets.iter() {
+        for payload in Payloads::new(headroom, ends, bytes) {
             count = count.with(payload.len());
         }
         count

@@ -2,7 +2,6 @@
 
 //! A sender that makes RTP packets of the packets of access units.
 
-use crate::proved::h26x_packetizer::PacketBuffer;
 use crate::proved::h26x_rtp::{RtpExtension, RtpWriteError};
 use crate::proved::h26x_rtp_sender::count::SentCount;
 use crate::proved::h26x_rtp_sender::error::RtpSendError;
@@ -36,43 +35,53 @@ impl RtpSender {
         }
     }
 
-    /// Makes RTP packets of the packets of an access unit, by headers that are written right before
-    /// each in its headroom: numbers follow each other, and the last has the marker (RFC 3550, 5.1).
-    /// Each begins at the place of its headroom that is answered. Copies of the last are held. Where
-    /// they are refused all stays.
-    pub fn send(
+    /// The same of packets that lie in memory of the caller, as
+    /// [`packetize_units_to_memory`](h26x_packetizer::PayloadPacketizer::packetize_units_to_memory)
+    /// leaves them: one behind the other up to these ends, each behind its headroom, where
+    /// [`are_in_memory`](crate::proved::h26x_rtp_sender::are_in_memory) says that they do. Nothing but the headers is written.
+    pub(crate) fn send_in_memory(
         &mut self,
         timestamp: u32,
         extension: Option<RtpExtension<'_>>,
-        packets: &mut PacketBuffer,
+        headroom: usize,
+        ends: &[usize],
+        memory: &mut [u8],
     ) -> Result<usize, RtpSendError> {
-        let unit = UnitHeader {
+        let unit = self.unit(timestamp, extension);
+        match unit.test(headroom) {
+            Ok(start) => {
+                let first = self.media.sequence;
+                self.take(unit, headroom, ends, memory)?;
+                unit.put_all_in_memory(first, headroom, ends, memory);
+                Ok(start)
+            }
+            Err(error) => Err(RtpSendError::Header(error)),
+        }
+    }
+
+    /// What the headers of an access unit's packets have in common.
+    fn unit<'a>(&self, timestamp: u32, extension: Option<RtpExtension<'a>>) -> UnitHeader<'a> {
+        UnitHeader {
             payload_type: self.media.payload_type,
             timestamp,
             ssrc: self.media.ssrc,
             extension,
-        };
-        match unit.test(packets.headroom()) {
-            Ok(start) => {
-                self.send_unit(unit, packets)?;
-                Ok(start)
-            }
-            Err(e) => Err(RtpSendError::Header(e)),
         }
     }
 
-    /// Sends the packets of an access unit of which this is the header.
-    fn send_unit(
+    /// Holds copies of the packets of an access unit of which this is the header, and counts them.
+    fn take(
         &mut self,
         unit: UnitHeader<'_>,
-        packets: &mut PacketBuffer,
+        headroom: usize,
+        ends: &[usize],
+        bytes: &[u8],
     ) -> Result<(), RtpSendError> {
         let first = self.media.sequence;
-        let made = unit_packets(unit, first, packets)?;
+        let made = unit_packets(unit, first, headroom, ends, bytes)?;
         self.history.take(made)?;
-        self.sent = self.sent.with_all(packets);
-        self.media = self.media.behind(packets.len());
-        unit.put_all(first, packets);
+        self.sent = self.sent.with_all(headroom, ends, bytes);
+        self.media = self.media.behind(ends.len());
         Ok(())
     }
 

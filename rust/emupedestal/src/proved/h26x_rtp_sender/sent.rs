@@ -2,8 +2,8 @@
 
 //! Packets that were sent and are held.
 
-use crate::proved::h26x_packetizer::PacketBuffer;
 use crate::proved::h26x_rtp::{RtpDatagram, RtpExtension, RtpHeader};
+use crate::proved::h26x_rtp_sender::payloads::Payloads;
 use crate::proved::h26x_rtp_sender::unit::UnitHeader;
 use crate::support::AllocError;
 use crate::support::TrySlice;
@@ -101,17 +101,20 @@ impl SentPacket {
     }
 }
 
-/// The packets of an access unit, of which the first has this number.
+/// The packets of an access unit, of which the first has this number, and whose payloads end at these
+/// places of memory.
 pub(crate) fn unit_packets(
     unit: UnitHeader<'_>,
     first: u16,
-    packets: &PacketBuffer,
+    headroom: usize,
+    ends: &[usize],
+    bytes: &[u8],
 ) -> Result<VecDeque<SentPacket>, AllocError> {
     let mut made = VecDeque::new();
-    made.try_reserve(packets.len())?;
+    made.try_reserve(ends.len())?;
     let mut sequence = first;
-    let mut left = packets.len();
-    for payload in packets.iter() {
+    let mut left = ends.len();
+    for payload in Payloads::new(headroom, ends, bytes) {
         let packet = SentPacket::new(unit, sequence, left == 1, payload)?;
         made.push_back(packet);
         sequence = sequence.wrapping_add(1);

@@ -2,7 +2,6 @@
 
 //! What the headers of an access unit's packets have in common.
 
-use crate::proved::h26x_packetizer::PacketBuffer;
 use crate::proved::h26x_rtp::{RtpExtension, RtpHeader, RtpWriteError};
 
 /// How many bytes a header may have here: an extension of 256 bytes.
@@ -42,24 +41,29 @@ impl<'a> UnitHeader<'a> {
         Ok(start + (headroom - place))
     }
 
-    /// Writes the header of a packet right before it.
-    fn put(self, sequence: u16, marker: bool, place: usize, packets: &mut PacketBuffer) {
-        let header = self.header(sequence, marker);
-        let mut memory = [0; LONGEST_HEADER];
-        let start = header
-            .write_before(false, LONGEST_HEADER, &mut memory)
-            .unwrap();
-        packets.write_header(place, &memory[start..]);
+    /// Writes the header of a packet right before its place in memory; where it begins.
+    fn put_before(self, sequence: u16, marker: bool, place: usize, memory: &mut [u8]) -> usize {
+        self.header(sequence, marker)
+            .write_before(false, place, memory)
+            .unwrap()
     }
 
-    /// Writes the headers of all packets, of which the first has this number: the last has the marker
-    /// (RFC 6184, 5.1; RFC 7798, 4.1; RFC 9328, 4.1).
-    pub(crate) fn put_all(self, first: u16, packets: &mut PacketBuffer) {
-        let count = packets.len();
+    /// Writes the headers of all packets that end at these places of memory, as `put_all`.
+    pub(crate) fn put_all_in_memory(
+        self,
+        first: u16,
+        headroom: usize,
+        ends: &[usize],
+        memory: &mut [u8],
+    ) {
         let mut sequence = first;
-        for place in 0..count {
-            self.put(sequence, place + 1 == count, place, packets);
+        let mut start = 0;
+        let mut left = ends.len();
+        for end in ends.iter() {
+            self.put_before(sequence, left == 1, start + headroom, memory);
             sequence = sequence.wrapping_add(1);
+            start = *end;
+            left -= 1;
         }
     }
 }

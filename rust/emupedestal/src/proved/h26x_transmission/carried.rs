@@ -19,11 +19,6 @@ impl Packets {
     pub fn as_slice(&self) -> &[Vec<u8>] {
         &self.list
     }
-
-    /// The packets as a vector. It takes no memory.
-    pub fn into_vec(self) -> Vec<Vec<u8>> {
-        self.list
-    }
 }
 
 /// Of each call of a transmission whether it was made.
@@ -41,11 +36,6 @@ impl Marks {
     /// The mark of each call.
     pub fn as_slice(&self) -> &[bool] {
         &self.marks
-    }
-
-    /// The marks as a vector. It takes no memory.
-    pub fn into_vec(self) -> Vec<bool> {
-        self.marks
     }
 }
 

@@ -4,7 +4,7 @@
 
 use crate::proved::h26x_codec::Codec;
 use crate::proved::h26x_core::{PacketError, Packetizer};
-use crate::proved::h26x_packetizer::PacketBuffer;
+use crate::proved::h26x_packetizer::{EveryUnitError, PacketBuffer, PacketsSize, Packing};
 use crate::proved::h264_payload::H264Packetizer;
 use crate::proved::h265_payload::H265Packetizer;
 use crate::proved::h266_payload::H266Packetizer;
@@ -135,6 +135,66 @@ impl CodecPacketizer {
                 Ok(())
             }
         }
+    }
+
+    /// The packets of the NAL units of one access unit, each without its start code, none of which is
+    /// left out, in order and as they are: those that fit one packet together
+    /// (RFC 6184, 5.7.1; RFC 7798, 4.4.2; RFC 9328, 4.3.2), the others alone or in fragments. Sets that
+    /// wait stay.
+    ///
+    /// The first unit that can't go is named, and nothing is sent then. Else `OutOfMemory` is the only
+    /// error. Both leave everything. `None` of one in a box, whose trait has no such call: nothing is
+    /// done.
+    pub fn packetize_units<'a>(
+        &mut self,
+        packing: Packing,
+        mtu: usize,
+        units: &'a [&'a [u8]],
+    ) -> Result<Option<Vec<Vec<u8>>>, EveryUnitError> {
+        match self {
+            CodecPacketizer::H264(it) => Ok(Some(it.packetize_units(packing, mtu, units)?)),
+            CodecPacketizer::H265(it) => Ok(Some(it.packetize_units(packing, mtu, units)?)),
+            CodecPacketizer::H266(it) => Ok(Some(it.packetize_units(packing, mtu, units)?)),
+            CodecPacketizer::Boxed(_) => Ok(None),
+        }
+    }
+
+    /// Appends the packets of [`packetize_units`](CodecPacketizer::packetize_units) to a buffer, each
+    /// behind its headroom. A refusal leaves the packets that stood there, and so does `None`, of one
+    /// in a box.
+    pub fn packetize_units_into<'a>(
+        &mut self,
+        packing: Packing,
+        mtu: usize,
+        units: &'a [&'a [u8]],
+        into: &mut PacketBuffer,
+    ) -> Result<Option<()>, EveryUnitError> {
+        match self {
+            CodecPacketizer::H264(it) => it.packetize_units_into(packing, mtu, units, into)?,
+            CodecPacketizer::H265(it) => it.packetize_units_into(packing, mtu, units, into)?,
+            CodecPacketizer::H266(it) => it.packetize_units_into(packing, mtu, units, into)?,
+            CodecPacketizer::Boxed(_) => return Ok(None),
+        }
+        Ok(Some(()))
+    }
+
+    /// How many packets [`packetize_units_into`](CodecPacketizer::packetize_units_into) would make of
+    /// units, and how many bytes they take with `headroom` bytes before each; `None` of one in a box.
+    /// Nothing changes, and units are refused as there.
+    pub fn units_size<'a>(
+        &self,
+        packing: Packing,
+        mtu: usize,
+        units: &'a [&'a [u8]],
+        headroom: usize,
+    ) -> Result<Option<PacketsSize>, EveryUnitError> {
+        let size = match self {
+            CodecPacketizer::H264(it) => it.units_size(packing, mtu, units, headroom)?,
+            CodecPacketizer::H265(it) => it.units_size(packing, mtu, units, headroom)?,
+            CodecPacketizer::H266(it) => it.units_size(packing, mtu, units, headroom)?,
+            CodecPacketizer::Boxed(_) => return Ok(None),
+        };
+        Ok(Some(size))
     }
 }
 

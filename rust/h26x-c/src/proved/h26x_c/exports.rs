@@ -10,6 +10,8 @@ pub use super::access_units::Counts;
 pub use super::access_units::NackTimes;
 pub use super::const_handle::ConstHandle;
 pub use super::handle::Handle;
+pub use super::parts::BlockPlace;
+pub use super::parts::ElementPlace;
 pub use super::place::Place;
 pub use super::rtcp::Report;
 pub use super::rtcp::Statistics;
@@ -18,7 +20,10 @@ pub use super::rtp::RtpPlaces;
 pub use super::rtp_receiver::DatagramTold;
 pub use super::rtp_receiver::PayloadTypes;
 pub use super::rtp_receiver::Sources;
+pub use super::rtp_sender::SentCounts;
+pub use super::rtp_sender::Streams;
 pub use super::shown::Shown;
+pub use super::so_far::SoFarTold;
 use crate::pointers;
 pub use crate::proved::h26x_codes::code::Refusal;
 pub use crate::proved::h26x_handles::access_units::UnitTold;
@@ -28,6 +33,7 @@ pub use crate::proved::h26x_handles::receive_all::ReceivedTold;
 pub use crate::proved::h26x_sdp_handles::repair::RtxNumbers;
 pub use crate::proved::h26x_sdp_handles::sdp_values::ConstraintNumbers;
 pub use crate::proved::h26x_sdp_handles::sdp_values::PointNumbers;
+pub use crate::proved::h26x_sdp_handles::streams::StreamNumbers;
 use core::mem::MaybeUninit;
 
 #[unsafe(no_mangle)]
@@ -418,6 +424,45 @@ pub unsafe extern "C" fn h26x_set_lowest_header(
 #[unsafe(no_mangle)]
 pub extern "C" fn h26x_out_size_hint(packets_size: usize) -> usize {
     super::packets::h26x_out_size_hint(packets_size)
+}
+
+#[unsafe(no_mangle)]
+pub unsafe extern "C" fn h26x_rtp_element_next(
+    profile: u16,
+    extension: *const u8,
+    extension_len: usize,
+    from: usize,
+    element: *mut ElementPlace,
+) -> u32 {
+    let mut no_element = MaybeUninit::uninit();
+    // SAFETY: a caller owes what the header says.
+    unsafe {
+        super::parts::h26x_rtp_element_next(
+            profile,
+            pointers::items(extension, extension_len),
+            from,
+            pointers::output(element, &mut no_element),
+        )
+    }
+}
+
+#[unsafe(no_mangle)]
+pub unsafe extern "C" fn h26x_red_blocks(
+    payload: *const u8,
+    payload_len: usize,
+    blocks: *mut BlockPlace,
+    blocks_room: usize,
+    count: *mut usize,
+) -> u32 {
+    let mut no_count = MaybeUninit::uninit();
+    // SAFETY: a caller owes what the header says.
+    unsafe {
+        super::parts::h26x_red_blocks(
+            pointers::items(payload, payload_len),
+            pointers::room(blocks, blocks_room),
+            pointers::output(count, &mut no_count),
+        )
+    }
 }
 
 #[unsafe(no_mangle)]
@@ -1294,6 +1339,110 @@ pub unsafe extern "C" fn h26x_rtp_receiver_count(
 }
 
 #[unsafe(no_mangle)]
+pub unsafe extern "C" fn h26x_rtp_sender_new(
+    streams: *const Streams,
+    history: usize,
+    made: *mut Place,
+) -> u32 {
+    // SAFETY: a caller owes what the header says.
+    unsafe {
+        super::rtp_sender::h26x_rtp_sender_new(
+            pointers::shared(streams),
+            history,
+            pointers::made(made),
+        )
+    }
+}
+
+#[unsafe(no_mangle)]
+pub unsafe extern "C" fn h26x_rtp_sender_free(s: Handle) {
+    if s.ptr.is_null() {
+        return;
+    }
+    super::rtp_sender::h26x_rtp_sender_free(s)
+}
+
+#[unsafe(no_mangle)]
+pub unsafe extern "C" fn h26x_rtp_sender_send(
+    s: *mut Handle,
+    timestamp: u32,
+    profile: u16,
+    extension: *const u8,
+    extension_len: usize,
+    headroom: usize,
+    packets: *mut u8,
+    packets_len: usize,
+    ends: *const usize,
+    ends_len: usize,
+    len: *mut usize,
+) -> u32 {
+    let mut no_len = MaybeUninit::uninit();
+    // SAFETY: a caller owes what the header says.
+    unsafe {
+        super::rtp_sender::h26x_rtp_sender_send(
+            pointers::lent(s),
+            timestamp,
+            profile,
+            pointers::items(extension, extension_len),
+            headroom,
+            pointers::room(packets, packets_len),
+            pointers::items(ends, ends_len),
+            pointers::output(len, &mut no_len),
+        )
+    }
+}
+
+#[unsafe(no_mangle)]
+pub unsafe extern "C" fn h26x_rtp_sender_resend(
+    s: *mut Handle,
+    number: u16,
+    to: *mut u8,
+    room: usize,
+    len: *mut usize,
+) -> u32 {
+    let mut no_len = MaybeUninit::uninit();
+    // SAFETY: a caller owes what the header says.
+    unsafe {
+        super::rtp_sender::h26x_rtp_sender_resend(
+            pointers::lent(s),
+            number,
+            pointers::room(to, room),
+            pointers::output(len, &mut no_len),
+        )
+    }
+}
+
+#[unsafe(no_mangle)]
+pub unsafe extern "C" fn h26x_rtp_sender_streams(
+    s: *const ConstHandle,
+    streams: *mut Streams,
+) -> u32 {
+    let mut no_streams = MaybeUninit::uninit();
+    // SAFETY: a caller owes what the header says.
+    unsafe {
+        super::rtp_sender::h26x_rtp_sender_streams(
+            pointers::shared(s),
+            pointers::output(streams, &mut no_streams),
+        )
+    }
+}
+
+#[unsafe(no_mangle)]
+pub unsafe extern "C" fn h26x_rtp_sender_count(
+    s: *const ConstHandle,
+    sent: *mut SentCounts,
+) -> u32 {
+    let mut no_sent = MaybeUninit::uninit();
+    // SAFETY: a caller owes what the header says.
+    unsafe {
+        super::rtp_sender::h26x_rtp_sender_count(
+            pointers::shared(s),
+            pointers::output(sent, &mut no_sent),
+        )
+    }
+}
+
+#[unsafe(no_mangle)]
 pub unsafe extern "C" fn h26x_sdp_read(
     codec: u32,
     text: *const u8,
@@ -2006,6 +2155,109 @@ pub unsafe extern "C" fn h26x_h265_part_copy(
             i,
             pointers::room(to, room),
             pointers::output(number, &mut no_number),
+        )
+    }
+}
+
+#[unsafe(no_mangle)]
+pub unsafe extern "C" fn h26x_access_units_so_far(
+    u: *const ConstHandle,
+    from: usize,
+    to: *mut u8,
+    room: usize,
+    so_far: *mut SoFarTold,
+) -> bool {
+    let mut no_so_far = MaybeUninit::uninit();
+    // SAFETY: a caller owes what the header says.
+    unsafe {
+        super::so_far::h26x_access_units_so_far(
+            pointers::shared(u),
+            from,
+            pointers::room(to, room),
+            pointers::output(so_far, &mut no_so_far),
+        )
+    }
+}
+
+#[unsafe(no_mangle)]
+pub unsafe extern "C" fn h26x_rtp_receiver_so_far(
+    r: *const ConstHandle,
+    from: usize,
+    to: *mut u8,
+    room: usize,
+    so_far: *mut SoFarTold,
+) -> bool {
+    let mut no_so_far = MaybeUninit::uninit();
+    // SAFETY: a caller owes what the header says.
+    unsafe {
+        super::so_far::h26x_rtp_receiver_so_far(
+            pointers::shared(r),
+            from,
+            pointers::room(to, room),
+            pointers::output(so_far, &mut no_so_far),
+        )
+    }
+}
+
+#[unsafe(no_mangle)]
+pub unsafe extern "C" fn h26x_sdp_agreed(
+    own: *const ConstHandle,
+    other: *const ConstHandle,
+    options: u32,
+    sends: *mut StreamNumbers,
+    receives: *mut StreamNumbers,
+) -> u32 {
+    let mut no_sends = MaybeUninit::uninit();
+    let mut no_receives = MaybeUninit::uninit();
+    // SAFETY: a caller owes what the header says.
+    unsafe {
+        super::streams::h26x_sdp_agreed(
+            pointers::shared(own),
+            pointers::shared(other),
+            options,
+            pointers::output(sends, &mut no_sends),
+            pointers::output(receives, &mut no_receives),
+        )
+    }
+}
+
+#[unsafe(no_mangle)]
+pub unsafe extern "C" fn h26x_sdp_accepts_declared(
+    declared: *const ConstHandle,
+    ours: *const ConstHandle,
+    options: u32,
+) -> u32 {
+    // SAFETY: a caller owes what the header says.
+    unsafe {
+        super::streams::h26x_sdp_accepts_declared(
+            pointers::shared(declared),
+            pointers::shared(ours),
+            options,
+        )
+    }
+}
+
+#[unsafe(no_mangle)]
+pub unsafe extern "C" fn h26x_sdp_level_unit(
+    h: *const ConstHandle,
+    level: u64,
+    i: usize,
+    to: *mut u8,
+    room: usize,
+    len: *mut usize,
+    why: *mut Refusal,
+) -> u32 {
+    let mut no_len = MaybeUninit::uninit();
+    let mut no_why = MaybeUninit::uninit();
+    // SAFETY: a caller owes what the header says.
+    unsafe {
+        super::streams::h26x_sdp_level_unit(
+            pointers::shared(h),
+            level,
+            i,
+            pointers::room(to, room),
+            pointers::output(len, &mut no_len),
+            pointers::output(why, &mut no_why),
         )
     }
 }

@@ -12,7 +12,6 @@ use crate::proved::h26x_codes::code::{
 use crate::proved::h26x_codes::copy::copy_where_room;
 use crate::proved::h26x_endpoint::endpoint::Endpoint;
 use crate::proved::h26x_handles::sending::SendingEndpoint;
-use crate::proved::h26x_handles::settings::SendingSettings;
 use core::mem::MaybeUninit;
 
 /// Makes a packetizer for which nothing waits.
@@ -74,18 +73,15 @@ pub fn h26x_packetizer_set_max_size(p: &mut Handle, bytes: u16) -> u32 {
     }
 }
 
-/// Sets whether aggregation packets of H.265 get the header of their units (RFC 7798, 4.4.2). Those of
-/// H.266 have it in any case.
+/// Sets whether parameter sets that share a packet of H.265 have the header of their own (RFC 7798,
+/// 4.4.2). Those of H.266 have it in any case.
 pub fn h26x_packetizer_set_lowest_header(p: &mut Handle, lowest: bool) -> u32 {
     match p.get_mut() {
         Endpoint::Sending(it) => {
             if !may_have_donl(it.packetizer.codec()) {
                 return NOT_OF_THIS_CODEC;
             }
-            it.set(SendingSettings {
-                lowest_header: lowest,
-                ..it.settings()
-            });
+            it.with_lowest_header(lowest);
             OK
         }
         _ => WRONG_END,

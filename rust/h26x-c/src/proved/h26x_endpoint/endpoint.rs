@@ -7,6 +7,7 @@ use crate::proved::h26x_handles::receiving::ReceivingEndpoint;
 use crate::proved::h26x_handles::rtp_receiver::RtpReceiverEndpoint;
 use crate::proved::h26x_handles::sending::SendingEndpoint;
 use crate::proved::h26x_handles::sequenced::SequencedEndpoint;
+use crate::proved::h26x_rtp_sender::RtpSender;
 use crate::proved::h26x_sdp_handles::sdp::SdpEndpoint;
 
 /// One endpoint of a stream.
@@ -21,6 +22,8 @@ pub enum Endpoint {
     AccessUnits(AccessUnitEndpoint),
     /// It receives access units, of datagrams as a socket brings them.
     RtpReceiver(RtpReceiverEndpoint),
+    /// It sends access units, as datagrams.
+    RtpSender(RtpSender),
     /// Format parameters of SDP.
     Sdp(SdpEndpoint),
 }

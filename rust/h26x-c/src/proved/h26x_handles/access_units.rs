@@ -7,6 +7,7 @@ use crate::proved::h26x_access_units::{
     AccessUnitConfig, AccessUnitReceiver, Counts, NackTimes, Nacks, Pushed, ReceivedAccessUnit,
     Receives,
 };
+use crate::proved::h26x_assembler::UnitsSoFar;
 use crate::proved::h26x_codec::{AnyPayloadDepacketizer, Codec};
 use crate::proved::h26x_codes::code::{
     NO_ROOM, NOTHING_YET, OK, OUT_OF_RANGE, codec_wanted, number_of,
@@ -184,6 +185,14 @@ impl AccessUnitEndpoint {
     /// When to ask for the next access unit at the latest, in the caller's ticks, if packets wait.
     pub fn deadline(&self) -> Option<u32> {
         self.receiver.deadline()
+    }
+
+    /// What came whole so far of the access unit that is open.
+    pub fn units_so_far(&self) -> Option<UnitsSoFar<'_>> {
+        if self.left.is_some() {
+            return None;
+        }
+        self.receiver.units_so_far()
     }
 
     /// Copies the numbers that are missing before packets that wait, in order, as many as there is room

@@ -4,6 +4,7 @@
 //! room where it was to be written.
 
 use crate::proved::h26x_access_units::{AccessUnitConfig, Counts, NackTimes, ReceivedAccessUnit};
+use crate::proved::h26x_assembler::UnitsSoFar;
 use crate::proved::h26x_codec::{AnyPayloadDepacketizer, Codec};
 use crate::proved::h26x_codes::copy::{copy_first, copy_where_room};
 use crate::proved::h26x_core::PacketError;
@@ -112,6 +113,14 @@ impl RtpReceiverEndpoint {
     /// When to ask for the next access unit at the latest, in the caller's ticks, if packets wait.
     pub fn deadline(&self) -> Option<u32> {
         self.receiver.deadline()
+    }
+
+    /// What came whole so far of the access unit that is open.
+    pub fn units_so_far(&self) -> Option<UnitsSoFar<'_>> {
+        if self.left.is_some() {
+            return None;
+        }
+        self.receiver.units_so_far()
     }
 
     /// Copies the missing numbers that are to be asked for at this tick, in order, as many as there is

@@ -3,10 +3,8 @@
 //! A packetizer, and the packets of its last call.
 
 use crate::proved::h26x_codec::{AnyPacketizer, Codec};
-use crate::proved::h26x_codes::code::may_have_donl;
 use crate::proved::h26x_codes::copy::{bytes_from, copy_packets};
 use crate::proved::h26x_core::PacketError;
-use crate::proved::h26x_handles::headers::{headers_wanted, set_headers, set_placed_headers};
 use crate::proved::h26x_handles::settings::SendingSettings;
 use crate::proved::h26x_packetizer::{PacketBuffer, Placement};
 use core::mem;
@@ -15,8 +13,6 @@ use core::mem;
 pub struct SendingEndpoint {
     /// The packetizer.
     pub packetizer: AnyPacketizer,
-    // As the packetizer has it.
-    has_donl: bool,
     pub(crate) settings: SendingSettings,
     pub(crate) packets: PacketBuffer,
     // Where a call writes: the packets of before stay until it is carried out.
@@ -28,7 +24,6 @@ impl SendingEndpoint {
     pub fn new(codec: Codec, has_donl: bool) -> Self {
         SendingEndpoint {
             packetizer: AnyPacketizer::new(codec, has_donl),
-            has_donl: has_donl && may_have_donl(codec),
             settings: SendingSettings::new(),
             packets: PacketBuffer::new(0),
             spare: PacketBuffer::new(0),
@@ -39,7 +34,6 @@ impl SendingEndpoint {
     pub fn try_clone(&self) -> Result<Self, PacketError> {
         Ok(SendingEndpoint {
             packetizer: self.packetizer.try_clone()?,
-            has_donl: self.has_donl,
             settings: self.settings,
             packets: PacketBuffer::new(0),
             spare: PacketBuffer::new(0),
@@ -49,7 +43,15 @@ impl SendingEndpoint {
     /// Turns numbers on, from 0, or off; that of H.264 stays as it is.
     pub fn with_donl(&mut self, has_donl: bool) {
         self.packetizer.with_donl(has_donl);
-        self.has_donl = has_donl && may_have_donl(self.packetizer.codec());
+        self.packetizer
+            .with_lowest_header(self.settings.lowest_header);
+    }
+
+    /// Sets whether parameter sets that share a packet of H.265 have the header of their own (RFC 7798,
+    /// 4.4.2).
+    pub fn with_lowest_header(&mut self, lowest_header: bool) {
+        self.packetizer.with_lowest_header(lowest_header);
+        self.settings.lowest_header = lowest_header;
     }
 
     /// Sets the largest packet size, in bytes; that of H.264 stays as it is.
@@ -72,22 +74,11 @@ impl SendingEndpoint {
         self.settings = settings;
     }
 
-    /// Where aggregates get the header of their units: whether packets bear decoding order numbers.
-    fn headers(&self) -> Option<bool> {
-        headers_wanted(
-            self.settings.lowest_header,
-            self.packetizer.codec(),
-            self.has_donl,
-        )
-    }
-
     /// Makes the packets of a payload, which take the place of the last call's.
     pub fn packetize(&mut self, mtu: usize, payload: &[u8]) -> Result<(), PacketError> {
-        let headers = self.headers();
         self.spare.clear();
         self.packetizer
             .packetize_into(mtu, payload, &mut self.spare)?;
-        set_headers(headers, &mut self.spare);
         mem::swap(&mut self.packets, &mut self.spare);
         Ok(())
     }
@@ -110,12 +101,8 @@ impl SendingEndpoint {
         to: &mut [u8],
         ends: &mut [usize],
     ) -> Result<Placement, PacketError> {
-        let headers = self.headers();
-        let made = self
-            .packetizer
-            .packetize_to_memory(mtu, payload, headroom, to, ends)?;
-        set_placed_headers(headers, made, headroom, to, ends);
-        Ok(made)
+        self.packetizer
+            .packetize_to_memory(mtu, payload, headroom, to, ends)
     }
 
     /// Copies the packets of one unit as it is straight to memory where they fit; else nothing is

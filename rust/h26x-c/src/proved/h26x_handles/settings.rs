@@ -4,10 +4,11 @@
 
 use crate::proved::h26x_packetizer::Packing;
 
-/// How a packetizer behind a handle sends, beside what the packetizer itself is told.
+/// How a packetizer behind a handle sends.
 #[derive(Debug, Clone, Copy, PartialEq, Eq)]
 pub struct SendingSettings {
-    /// Whether aggregates of H.265 get the header of their units (RFC 7798, 4.4.2).
+    /// Whether parameter sets that share a packet of H.265 have the header of their own (RFC 7798,
+    /// 4.4.2), as the packetizer is told.
     pub lowest_header: bool,
     /// Which units of an access unit share packets, where every unit goes.
     pub packing: Packing,

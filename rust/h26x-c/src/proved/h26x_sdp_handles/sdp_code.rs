@@ -6,7 +6,7 @@ use crate::proved::h26x_answers::FormatFault;
 use crate::proved::h26x_codec::Codec;
 use crate::proved::h26x_codes::code::OUT_OF_MEMORY;
 use crate::proved::h26x_fmtp::{Encoding, Fault, ParametersError, RtpMapError, UnitsError};
-use crate::proved::h26x_sdp::{CapabilityPointsError, ConstraintsError, RtxError};
+use crate::proved::h26x_sdp::{CapabilityPointsError, ConstraintsError, LevelSetsError, RtxError};
 use crate::proved::h26x_stream_parameters::StreamError;
 
 /// A brace of the text isn't closed.
@@ -91,6 +91,19 @@ pub fn of_units(error: UnitsError) -> Refused {
         UnitsError::OtherType { place } => Refused { code: 31, place },
         UnitsError::StartCode { place } => Refused { code: 32, place },
         UnitsError::OutOfMemory => refused_with(OUT_OF_MEMORY),
+    }
+}
+
+/// Why a text is no parameter sets of levels, and the place of the level that it is of.
+pub fn of_level_sets(error: LevelSetsError) -> Refused {
+    match error {
+        LevelSetsError::NotHexadecimal { place } => Refused { code: 23, place },
+        LevelSetsError::NoSets { place } => Refused { code: 74, place },
+        LevelSetsError::Sets { place, fault } => Refused {
+            code: of_units(fault).code,
+            place,
+        },
+        LevelSetsError::OutOfMemory => refused_with(OUT_OF_MEMORY),
     }
 }
 

@@ -8,7 +8,7 @@ use crate::proved::h26x_answers::answer::{
 use crate::proved::h26x_answers::direction::Usage;
 use crate::proved::h26x_answers::fault::FormatFault;
 use crate::proved::h26x_profile::{H264LevelIdc, H264Profile, H264ProfileIdc, H264ProfileLevel};
-use crate::proved::h26x_sdp::{H264Parameter, H264Parameters};
+use crate::proved::h26x_sdp::{H264Parameter, H264Parameters, LevelSets};
 use crate::support::AllocError;
 use crate::support::hex::FromHex;
 use alloc::vec::Vec;
@@ -128,6 +128,12 @@ impl ProfileLevelId {
             || (self.has_level_flag() && (self.level_idc == 11 && self.profile_iop >> 4 & 1 == 1))
     }
 
+    /// Whether 9 stands for level 1b where the level has a flag: the standard names it so of the other
+    /// profiles alone (Rec. ITU-T H.264, A.3.1 and A.3.2).
+    pub(crate) fn is_1b_without_flag(self) -> bool {
+        self.has_level_flag() && self.level_idc == 9
+    }
+
     /// Twice level_idc, by which levels are ordered; level 1b stands between 1 and 1.1.
     pub(crate) fn level_rank(self) -> u16 {
         if self.is_1b() {
@@ -185,6 +191,25 @@ impl ProfileLevelId {
             ..self
         }
     }
+}
+
+/// The level of three bytes as in `profile-level-id`: twice `level_idc`, and 21 for level 1b.
+fn level_of_id(id: [u8; 3]) -> u64 {
+    let [profile_idc, profile_iop, level_idc] = id;
+    let id = ProfileLevelId {
+        profile_idc,
+        profile_iop,
+        level_idc,
+    };
+    u64::from(id.level_rank())
+}
+
+/// The parameter sets of a level among those of `sprop-level-parameter-sets`, the level as
+/// [`AgreedStream`](crate::proved::h26x_answers::AgreedStream) has it: the first of that level (RFC 6184, section 8.1).
+pub fn sets_of_level(levels: &[LevelSets], level: u64) -> Option<&LevelSets> {
+    levels
+        .iter()
+        .find(|it| level_of_id(it.profile_level_id) == level)
 }
 
 /// The profile that a profile_idc and its flags have in table 5 of RFC 6184.
@@ -348,13 +373,14 @@ fn terms_at(
     level: ProfileLevelId,
 ) -> Result<Terms, AllocError> {
     let back = rank_back(offered, asymmetric, a, level);
+    let is_ours = a.same_profile(b);
     Ok(Terms {
         level: answer_id(offered, a, level)?,
         highest: None,
         asymmetric,
         reorders: is_interleaved(offered),
-        sets: may_tell_sets(offered, back, level.level_rank(), b.level_rank()),
-        level_sets: with_level_sets(offered, back, level.level_rank()),
+        sets: is_ours && may_tell_sets(offered, back, level.level_rank(), b.level_rank()),
+        level_sets: is_ours && with_level_sets(offered, back, level.level_rank()),
     })
 }
 

@@ -152,7 +152,7 @@ fn fault_received(it: &H264Parameters, rank: u16) -> Option<FormatFault> {
 
 /// Whether a level is one of the standard's.
 fn is_level(id: ProfileLevelId) -> bool {
-    limits_of(id.level_rank()).is_some()
+    !id.is_1b_without_flag() && limits_of(id.level_rank()).is_some()
 }
 
 /// Whether a format's profile and level are the standard's.

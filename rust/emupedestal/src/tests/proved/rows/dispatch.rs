@@ -9,7 +9,7 @@ use super::{Answers, shown};
 use crate::proved::h26x_codec::{Codec, PacketBuffer};
 use crate::proved::h26x_core::{CodecExtra, Depacketizer, Packetizer};
 use crate::proved::h26x_transmission::{CodecDepacketizer, CodecPacketizer};
-use crate::tests::proved::buffers::has;
+use crate::tests::proved::h26x_packetizer::buffers::has;
 use std::mem;
 
 /// Where packets go: to a list each time, or to one buffer, each behind so many bytes.

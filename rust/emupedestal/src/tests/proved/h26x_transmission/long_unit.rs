@@ -1,10 +1,10 @@
 //! A long unit through both endpoints.
 
-use super::told;
 use crate::proved::h26x_codec::Codec;
 use crate::proved::h26x_core::CodecExtra;
 use crate::proved::h26x_transmission::{CodecDepacketizer, CodecPacketizer, carry};
 use crate::proved::h264_payload::H264Depacketizer;
+use crate::tests::proved::told;
 
 /// A unit of 100,000 bytes without a zero, no two of whose fragments at 1200 are alike.
 #[test]

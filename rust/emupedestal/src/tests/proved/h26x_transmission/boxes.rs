@@ -1,8 +1,8 @@
 //! A caller's own ends in boxes, which are asked: no box answers for the one that it holds.
 
-use super::{Answer, SHORT};
 use crate::proved::h26x_core::{CodecExtra, Depacketizer, PacketError, Packetizer};
 use crate::proved::h26x_transmission::{CodecDepacketizer, CodecPacketizer};
+use crate::tests::proved::{Answer, SHORT};
 
 /// An end that answers otherwise than those of any codec, as an audio codec's does.
 #[derive(Debug)]

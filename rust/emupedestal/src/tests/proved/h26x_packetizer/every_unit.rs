@@ -1,11 +1,11 @@
 //! Every unit of a list in packets: together where they fit (RFC 6184, 5.7.1; RFC 7798, 4.4.2; RFC 9328, 4.3.2).
 
-use super::list;
 use crate::proved::h26x_codec::{EveryUnitError, PacketBuffer, Packing, RefusedUnit, WhyRefused};
 use crate::proved::h26x_packetizer::{EveryFormat, PayloadPacketizer};
 use crate::proved::h264_payload::H264Packetizer;
 use crate::proved::h265_payload::H265Packetizer;
 use crate::proved::h266_payload::H266Packetizer;
+use crate::tests::proved::list;
 
 use Packing::{Apart, BeforeSlices, Single, Together};
 

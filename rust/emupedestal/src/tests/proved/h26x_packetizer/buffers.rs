@@ -1,7 +1,7 @@
 //! The calls of a buffer of packets itself.
 
-use super::list;
 use crate::proved::h26x_codec::{BufferMemory, PacketBuffer};
+use crate::tests::proved::list;
 
 /// Appends packets for whose ends there is room, the first alone and then the others together.
 fn push_each(buffer: &mut PacketBuffer, packets: &str) {
@@ -22,7 +22,7 @@ fn headed(buffer: &PacketBuffer) -> Vec<Vec<u8>> {
 /// A buffer to which nothing but packets was written has these, and they lie in it one behind the other, each behind
 /// zeros.
 #[track_caller]
-pub(super) fn has(buffer: &PacketBuffer, packets: &[Vec<u8>]) {
+pub(in crate::tests::proved) fn has(buffer: &PacketBuffer, packets: &[Vec<u8>]) {
     let (mut laid, mut ends) = (Vec::new(), Vec::new());
     for packet in packets {
         laid.resize(laid.len() + buffer.headroom(), 0);
