@@ -100,6 +100,36 @@ static void gives_none_at(struct receiving *it, uint32_t now, int line)
 }
 #define gives_none(it, now) gives_none_at(it, now, __LINE__)
 
+/* Compares what came so far of the access unit that is open, from a byte on: all of it, and what has room for two. */
+static void shows_at(struct receiving *it, size_t from, const char *bytes, h26x_so_far wanted, int line)
+{
+    uint8_t to[ROOM] = {0}, two[3] = {7, 7, 7};
+    h26x_so_far told;
+    memset(&told, 0xee, sizeof told);
+    expect_at(it->tally, h26x_access_units_so_far(&it->u, from, to, sizeof to, &told), bytes, __FILE__, line);
+    expect_at(it->tally, is_same(to, told.len, bytes), bytes, __FILE__, line);
+    expect_at(it->tally,
+              told.timestamp == wanted.timestamp && told.extra == wanted.extra,
+              "what is told so far", __FILE__, line);
+    expect_at(it->tally, h26x_access_units_so_far(&it->u, from, two, 2, NULL), bytes, __FILE__, line);
+    expect_at(it->tally, memcmp(two, told.len < 2 ? (uint8_t[]){7, 7} : to, 2) == 0 && two[2] == 7, "room for two",
+              __FILE__, line);
+}
+#define shows(it, from, bytes, ...) shows_at(it, from, bytes, (h26x_so_far){__VA_ARGS__}, __LINE__)
+
+/* None is open, or one that ended isn't given out, which leaves everything. */
+static void shows_none_at(struct receiving *it, int line)
+{
+    uint8_t to[2] = {7, 7};
+    h26x_so_far told, before;
+    memset(&told, 0xee, sizeof told);
+    before = told;
+    expect_at(it->tally, !h26x_access_units_so_far(&it->u, 0, to, sizeof to, &told), "none is open", __FILE__, line);
+    expect_at(it->tally, memcmp(&told, &before, sizeof told) == 0 && to[0] == 7 && to[1] == 7, "nothing is shown",
+              __FILE__, line);
+}
+#define shows_none(it) shows_none_at(it, __LINE__)
+
 /* Compares the numbers that are missing, so many, which are at most three. */
 static void misses_at(struct receiving *it, size_t wanted, const uint16_t *numbers, int line)
 {
@@ -179,6 +209,42 @@ static void check_beginning(struct tally *t, const struct packets *p)
           .is_clean = true);
     gives_none(&it, 109);
     counts(&it, .taken = 3, .units = 3, .whole = 2);
+    h26x_access_units_free(it.u);
+}
+
+/* Units are shown as soon as they came whole, until their access unit has ended. */
+static void check_so_far(struct tally *t, const struct packets *p)
+{
+    struct receiving it = receiver_of(t, settings(p->codec));
+    shows_none(&it);
+    holds(&it, 0, 10, 0, true, p->key);
+    shows_none(&it);
+    gives(&it, 0, p->key_unit, .first = 10, .last = 10, .extra = KEY, .is_clean = true);
+    shows_none(&it);
+    holds(&it, 0, 11, 3000, false, p->start);
+    shows(&it, 0, "", .timestamp = 3000, .extra = 0);
+    holds(&it, 0, 12, 3000, false, p->middle);
+    shows(&it, 0, "", .timestamp = 3000, .extra = 0);
+    holds(&it, 0, 13, 3000, false, p->end);
+    shows(&it, 0, p->unit, .timestamp = 3000, .extra = KEY);
+    shows(&it, 4, p->unit + strlen("00000001 "), .timestamp = 3000, .extra = KEY);
+    shows(&it, SIZE_MAX, "", .timestamp = 3000, .extra = KEY);
+    expect(t, h26x_access_units_so_far(&it.u, 0, NULL, SIZE_MAX, NULL));
+    /* A packet that is missing, behind which another access unit begins: the first has ended, and is given out first. */
+    holds(&it, 0, 15, 6000, false, p->slice);
+    shows(&it, 0, p->unit, .timestamp = 3000, .extra = KEY);
+    gives(&it, 100, p->unit, .timestamp = 3000, .first = 11, .last = 13, .extra = KEY);
+    gives_none(&it, 100);
+    shows(&it, 0, p->slice_unit, .timestamp = 6000, .extra = SLICE);
+    /* One that has no room is given out before what is open is shown. */
+    holds(&it, 100, 16, 9000, false, p->slice);
+    expect(t, h26x_access_units_next(&it.u, 100, NULL, 0, NULL) == H26X_NO_ROOM);
+    shows_none(&it);
+    gives(&it, 100, p->slice_unit, .timestamp = 6000, .missing = 1, .first = 15, .last = 15, .extra = SLICE);
+    gives_none(&it, 100);
+    shows(&it, 0, p->slice_unit, .timestamp = 9000, .extra = SLICE);
+    expect(t, h26x_access_units_restart(&it.u) == H26X_OK);
+    shows_none(&it);
     h26x_access_units_free(it.u);
 }
 
@@ -602,17 +668,20 @@ static void check_reordered_start(struct tally *t, const struct packets *p)
     gives_none(&it, 319);
     gives(&it, 320, p->slice_unit, .first = 40000, .last = 40000, .extra = SLICE);
     h26x_access_units_free(it.u);
+}
 
-    /* Without a wait those before the first come late. */
+/* Without a wait those before the first packet come late, and of both waits the shorter holds. */
+static void check_waits_at_start(struct tally *t, const struct packets *p)
+{
+    h26x_access_units_config config = settings(p->codec);
     config.begin_wait = 0;
-    it = receiver_of(t, config);
+    struct receiving it = receiver_of(t, config);
     holds(&it, 0, 11, 0, true, p->later);
     gives(&it, 0, p->later_unit,
           .first = 11, .last = 11, .extra = KEY);
     pushes(&it, 0, 10, 0, false, p->key, H26X_PUSHED_LATE, 2);
     h26x_access_units_free(it.u);
 
-    /* The shorter of both waits. */
     config.begin_wait = 500;
     it = receiver_of(t, config);
     holds(&it, 0, 10, 0, true, p->slice);
@@ -954,6 +1023,7 @@ static void check_other_ends(struct tally *t, void *at)
     expect(t, pushed == 99 && behind == 99);
     expect(t, h26x_access_units_next(&u, 0, to, 8, &unit) == H26X_WRONG_END);
     expect(t, unit.len == 9 && to[0] == 7);
+    expect(t, !h26x_access_units_so_far(&u, 0, to, 8, NULL) && to[0] == 7);
     expect(t, !h26x_access_units_deadline(&u, &tick) && tick == 99);
     expect(t, h26x_access_units_missing(&u, numbers, 2, &count) == H26X_WRONG_END);
     expect(t, count == 0 && numbers[0] == 7);
@@ -1036,6 +1106,7 @@ void check_access_units(struct tally *t)
 {
     for (size_t i = 0; i < sizeof all_packets / sizeof all_packets[0]; i++) {
         check_beginning(t, &all_packets[i]);
+        check_so_far(t, &all_packets[i]);
         check_losses(t, &all_packets[i]);
         check_markers(t, &all_packets[i]);
         check_strays(t, &all_packets[i]);
@@ -1048,6 +1119,7 @@ void check_access_units(struct tally *t)
         check_settings(t, &all_packets[i]);
         check_first_keyframe(t, &all_packets[i]);
         check_reordered_start(t, &all_packets[i]);
+        check_waits_at_start(t, &all_packets[i]);
         check_told_number(t, &all_packets[i]);
         check_keyframe_without_sets(t, &all_packets[i]);
         check_sets_before(t, &all_packets[i]);

@@ -146,12 +146,14 @@ static void *run(void *at)
         check_access_unit_rows(&work->tally);
         check_nack_rows(&work->tally);
         check_rtp_receiver(&work->tally);
+        check_rtp_sender(&work->tally);
         check_showing(&work->tally);
         check_looking(&work->tally);
         check_profiles(&work->tally);
         check_sdp(&work->tally);
         check_sdp_rows(&work->tally);
         check_answer_rows(&work->tally);
+        check_direction_rows(&work->tally);
         check_unit_rows(&work->tally);
         check_datagrams(&work->tally);
         check_many(&work->tally);

@@ -25,9 +25,9 @@ bool is_same(const uint8_t *at, size_t len, const char *hex);
 const char *behind_bar(const char *hex);
 
 /* The checks of every call: of packetizers, of depacketizers and what they show, of receivers of
- * packets with their sequence numbers and of access units, of packets and of datagrams, of those without a
- * handle, on packets, on payloads and on profiles, on what stands round payloads, of format parameters of
- * SDP, and what may be left out of all. */
+ * packets with their sequence numbers and of access units, of packets and of datagrams, of senders of
+ * datagrams, of those without a handle, on packets, on payloads and on profiles, on what stands round
+ * payloads, of format parameters of SDP, and what may be left out of all. */
 void check_sending(struct tally *t);
 void check_receiving(struct tally *t);
 void check_sequenced(struct tally *t);
@@ -35,6 +35,7 @@ void check_access_units(struct tally *t);
 void check_access_unit_rows(struct tally *t);
 void check_nack_rows(struct tally *t);
 void check_rtp_receiver(struct tally *t);
+void check_rtp_sender(struct tally *t);
 void check_showing(struct tally *t);
 void check_looking(struct tally *t);
 void check_cutting(struct tally *t);
@@ -42,6 +43,7 @@ void check_profiles(struct tally *t);
 void check_sdp(struct tally *t);
 void check_sdp_rows(struct tally *t);
 void check_answer_rows(struct tally *t);
+void check_direction_rows(struct tally *t);
 void check_unit_rows(struct tally *t);
 void check_datagrams(struct tally *t);
 void check_many(struct tally *t);

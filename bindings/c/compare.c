@@ -25,14 +25,15 @@
 
 #define NAMES(X)                                                                                   \
     X(version) X(codec_name) X(strerror) X(packetizer_new) X(depacketizer_new) X(receiver_new)     \
-    X(access_units_new) X(rtp_receiver_new) X(packetizer_free) X(depacketizer_free)                \
-    X(receiver_free) X(access_units_free) X(rtp_receiver_free) X(sdp_free) X(h265_paci_packet)      \
+    X(access_units_new) X(rtp_receiver_new) X(rtp_sender_new)                                      \
+    X(packetizer_free) X(depacketizer_free) X(receiver_free) X(access_units_free)                  \
+    X(rtp_receiver_free) X(rtp_sender_free) X(sdp_free) X(h265_paci_packet)                        \
     X(sdp_read) X(sdp_of_payload) X(fits_single_units) X(rtpmap_read) X(rtpmap_write)              \
     X(repairmap_read) X(repairmap_write) X(rtx_format_read) X(rtx_format_write)                    \
     X(is_partition_head) X(is_partition_tail) X(detect_keyframe) X(detect_h264_nalu) X(next_unit)  \
     X(set_lowest_header) X(begins_keyframe)                                                        \
-    X(is_rtcp) X(rtp_read) X(rtp_original) X(rtp_write) X(rtp_write_before) X(rtx_write)           \
-    X(red_primary) X(pli_write) X(pli_read) X(fir_write) X(fir_read) X(receiver_report_write)      \
+    X(is_rtcp) X(rtp_read) X(rtp_element_next) X(rtp_original) X(rtp_write) X(rtp_write_before)    \
+    X(rtx_write) X(red_primary) X(red_blocks) X(pli_write) X(pli_read) X(fir_write) X(fir_read) X(receiver_report_write)      \
     X(receiver_report_read) X(nack_write) X(nack_read) X(rtcp_next) X(rtp_statistics_receive)      \
     X(rtp_statistics_recover) X(rtp_statistics_report)                                             \
     X(unit_is_plain) X(out_size_hint) X(h264_profile_level) X(h265_is_known) X(h266_is_known)      \
@@ -45,14 +46,17 @@
     X(depacketizer_same) X(depacketizer_set_numbers) X(depacketize) X(written_copy) X(give_up_run) \
     X(receiver_clone) X(receiver_set_numbers) X(receiver_set_avc) X(receive) X(receiver_restart)   \
     X(receiver_skip) X(receiver_run_len) X(h265_shown) X(h265_part_copy) X(access_units_push)      \
-    X(access_units_skip) X(access_units_next) X(access_units_deadline) X(access_units_missing)     \
+    X(access_units_skip) X(access_units_next) X(access_units_so_far) X(access_units_deadline) X(access_units_missing)     \
     X(access_units_begin_at) X(access_units_finish) X(access_units_restart) X(access_units_count)  \
     X(access_units_set_config) X(access_units_nacks)                                               \
     X(rtp_receiver_push) X(rtp_receiver_next) X(rtp_receiver_set_config) X(rtp_receiver_follow)    \
-    X(rtp_receiver_sources) X(rtp_receiver_deadline) X(rtp_receiver_nacks) X(rtp_receiver_finish)  \
+    X(rtp_receiver_sources) X(rtp_receiver_so_far) X(rtp_receiver_deadline) X(rtp_receiver_nacks) X(rtp_receiver_finish)  \
     X(rtp_receiver_keyframe_wanted) X(rtp_receiver_statistics) X(rtp_receiver_report)              \
     X(rtp_receiver_count)                                                                          \
-    X(sdp_answer) X(sdp_answer_with) X(sdp_broken_rule) X(sdp_name) X(sdp_codec) X(sdp_write) X(sdp_set) X(sdp_unset) X(sdp_value) X(sdp_number)    \
+    X(rtp_sender_send) X(rtp_sender_resend) X(rtp_sender_streams) X(rtp_sender_count)              \
+    X(sdp_answer) X(sdp_answer_with) X(sdp_agreed) X(sdp_accepts_declared) X(sdp_level_unit)       \
+    X(sdp_broken_rule) X(sdp_name) X(sdp_codec) X(sdp_write) X(sdp_set) X(sdp_unset) X(sdp_value)  \
+    X(sdp_number)                                                                                  \
     X(sdp_units) X(sdp_unit) X(sdp_other) X(sdp_max_don_diff) X(sdp_constraints)                   \
     X(sdp_capability_points)
 
@@ -108,7 +112,7 @@ static struct library opened(const char *path)
 
 /* ---- What a call is given ---- */
 
-enum kind { NONE, PACKETIZER, DEPACKETIZER, RECEIVER, ACCESS_UNITS, RTP_RECEIVER, SDP };
+enum kind { NONE, PACKETIZER, DEPACKETIZER, RECEIVER, ACCESS_UNITS, RTP_RECEIVER, RTP_SENDER, SDP };
 
 /* A handle of each library, of one kind. */
 struct held {
@@ -118,7 +122,7 @@ struct held {
     void *at[2];
 };
 
-enum { HELD = 8, ENDS = 512, MISSING = 64, POINTS = 3, NUMBERS = 46 };
+enum { HELD = 8, ENDS = 512, MISSING = 64, POINTS = 3, NUMBERS = 49 };
 
 static struct held held[HELD];
 
@@ -155,12 +159,14 @@ static enum call draw_call(const struct held *h)
                                                CALL_access_units_next};
     static const enum call often_of_datagrams[] = {CALL_rtp_receiver_push, CALL_rtp_receiver_push,
                                                    CALL_rtp_receiver_next};
+    static const enum call often_of_sending[] = {CALL_rtp_sender_send, CALL_rtp_sender_send, CALL_rtp_sender_resend};
     const enum call call = one_in(2) ? (enum call)below(CALLS)
         : h->kind == ACCESS_UNITS    ? often_of_units[below(3)]
         : h->kind == RTP_RECEIVER    ? often_of_datagrams[below(3)]
+        : h->kind == RTP_SENDER      ? often_of_sending[below(3)]
                                      : often[below(11)];
     if (call >= CALL_packetizer_clone && h->kind == NONE)
-        return one_in(5) ? CALL_sdp_read : CALL_packetizer_new + below(5);
+        return one_in(5) ? CALL_sdp_read : CALL_packetizer_new + below(6);
     return call;
 }
 
@@ -200,6 +206,7 @@ static void draw_input(enum call call, uint32_t codec)
         draw_datagram(&input);
         break;
     case CALL_red_primary:
+    case CALL_red_blocks:
         draw_red(&input);
         break;
     case CALL_sdp_set:
@@ -326,6 +333,11 @@ struct outputs {
     h26x_rtp_told told;
     h26x_rtp_sources sources;
     h26x_rtp_statistics counted;
+    h26x_so_far so_far;
+    h26x_rtp_streams streams;
+    h26x_rtp_sent sent;
+    h26x_rtp_element element;
+    h26x_red_block blocks[POINTS];
 };
 
 #define WANTED(bit, output) ((d->wants >> (bit) & 1) != 0 ? (output) : NULL)
@@ -355,6 +367,7 @@ static h26x_access_units_config config_of(const struct drawn *d)
 #define R &(h26x_receiver){{d->h->at[s]}}
 #define U &(h26x_access_units){d->h->at[s]}
 #define DATAGRAMS &(h26x_rtp_receiver){d->h->at[s]}
+#define SENDING &(h26x_rtp_sender){d->h->at[s]}
 #define F &(h26x_sdp){d->h->at[s]}
 
 static uint64_t sends(int s, const struct drawn *d, struct answer *a, struct outputs *o)
@@ -457,6 +470,8 @@ static uint64_t receives_units(int s, const struct drawn *d, struct answer *a, s
         return l->access_units_skip(U, d->tick, d->sequence, WANTED(4, &o->number), WANTED(5, &o->gap));
     case CALL_access_units_next:
         return l->access_units_next(U, d->tick, d->has_to ? a->to : NULL, d->room, WANTED(6, &o->unit));
+    case CALL_access_units_so_far:
+        return l->access_units_so_far(U, d->x % 9, d->has_to ? a->to : NULL, d->room, WANTED(6, &o->so_far));
     case CALL_access_units_deadline:
         return l->access_units_deadline(U, WANTED(4, &o->number));
     case CALL_access_units_missing:
@@ -527,6 +542,9 @@ static uint64_t receives_datagrams(int s, const struct drawn *d, struct answer *
         return l->rtp_receiver_follow(DATAGRAMS, &sources);
     case CALL_rtp_receiver_sources:
         return l->rtp_receiver_sources(DATAGRAMS, WANTED(9, &o->sources));
+    case CALL_rtp_receiver_so_far:
+        return l->rtp_receiver_so_far(DATAGRAMS, d->x % 9, d->has_to ? a->to : NULL, d->room,
+                                      WANTED(6, &o->so_far));
     case CALL_rtp_receiver_deadline:
         return l->rtp_receiver_deadline(DATAGRAMS, WANTED(4, &o->number));
     case CALL_rtp_receiver_nacks:
@@ -545,6 +563,47 @@ static uint64_t receives_datagrams(int s, const struct drawn *d, struct answer *
     }
 }
 
+/* What two formats agree on, whose parts go to numbers, or whether one is received that is declared. */
+static uint64_t agrees(int s, const struct drawn *d, struct outputs *o)
+{
+    const struct library *l = &libraries[s];
+    const h26x_sdp other = {d->other_h->at[s]};
+    h26x_sdp_stream sends = {.level = 9}, receives = {.level = 9};
+    if (d->call == CALL_sdp_accepts_declared)
+        return l->sdp_accepts_declared(F, &other, d->x % 33);
+    const uint64_t code = l->sdp_agreed(F, &other, d->x % 33, WANTED(0, &sends), WANTED(1, &receives));
+    o->value = sends.level << 32 | receives.level;
+    o->number = (uint32_t)((sends.mode << 8 | sends.sets << 4 | sends.is_there << 1 | sends.has_mode) << 16
+                           | (receives.mode << 8 | receives.sets << 4 | receives.is_there << 1 | receives.has_mode));
+    return code;
+}
+
+/* Packets lie one behind the other in what is written to, most of them behind their headroom. What goes again is one of
+ * the last packets, or none. */
+static uint64_t sends_datagrams(int s, const struct drawn *d, struct answer *a, struct outputs *o)
+{
+    const struct library *l = &libraries[s];
+    size_t ends[4], end = 0;
+    h26x_rtp_streams next = {0};
+    for (size_t i = 0; i < 4; i++)
+        ends[i] = end += d->headroom + (d->x >> 8 * i & 63) - (d->z % 9 == i);
+    switch (d->call) {
+    case CALL_rtp_sender_send:
+        return l->rtp_sender_send(SENDING, d->tick, (uint16_t)d->z, d->extension,
+                                  d->y % 3 ? 0 : d->y % 2 ? d->extension_len : d->extension_len / 4 * 4, d->headroom,
+                                  d->has_to ? a->to : NULL, d->room, d->has_ends ? ends : NULL, d->y % 5,
+                                  WANTED(0, &o->count));
+    case CALL_rtp_sender_resend:
+        l->rtp_sender_streams(SENDING, &next);
+        return l->rtp_sender_resend(SENDING, (uint16_t)(next.sequence - d->y % 8), d->has_to ? a->to : NULL, d->room,
+                                    WANTED(0, &o->count));
+    case CALL_rtp_sender_streams:
+        return l->rtp_sender_streams(SENDING, WANTED(12, &o->streams));
+    default:
+        return l->rtp_sender_count(SENDING, WANTED(13, &o->sent));
+    }
+}
+
 static uint64_t describes(int s, const struct drawn *d, struct answer *a, struct outputs *o)
 {
     const struct library *l = &libraries[s];
@@ -552,6 +611,11 @@ static uint64_t describes(int s, const struct drawn *d, struct answer *a, struct
     size_t *len = WANTED(0, &o->count);
     h26x_refusal *why = WANTED(3, &o->why);
     switch (d->call) {
+    case CALL_sdp_agreed:
+    case CALL_sdp_accepts_declared:
+        return agrees(s, d, o);
+    case CALL_sdp_level_unit:
+        return l->sdp_level_unit(F, d->y % 4 ? 20 + d->x % 44 : d->x, d->z % 3, to, d->room % 40, len, why);
     case CALL_sdp_broken_rule:
         return l->sdp_broken_rule(F, d->x % 5, why);
     case CALL_sdp_name:
@@ -659,6 +723,9 @@ static uint64_t wraps(int s, const struct drawn *d, struct answer *a, struct out
         return l->is_rtcp(d->bytes, d->len);
     case CALL_rtp_read:
         return l->rtp_read(d->bytes, d->len, WANTED(6, &o->packet));
+    case CALL_rtp_element_next:
+        return l->rtp_element_next(d->x % 3 == 0 ? 0xbede : 0x1000 | d->z % 17, d->extension, d->extension_len, d->y % 20,
+                                   WANTED(6, &o->element));
     case CALL_rtp_original:
         return l->rtp_original(d->bytes, d->len, d->y % 128, d->z, WANTED(6, &o->packet));
     case CALL_rtp_write:
@@ -671,6 +738,8 @@ static uint64_t wraps(int s, const struct drawn *d, struct answer *a, struct out
         return l->rtx_write(d->bytes, d->len, (uint8_t)(d->x % 9 ? d->y % 128 : d->y), d->sequence, d->z, to, d->room, len);
     case CALL_red_primary:
         return l->red_primary(d->bytes, d->len, WANTED(1, &o->profile), len);
+    case CALL_red_blocks:
+        return l->red_blocks(d->bytes, d->len, d->has_ends ? o->blocks : NULL, d->x % (POINTS + 1), len);
     case CALL_pli_write:
         return l->pli_write(d->x, d->y, to, d->z % 40, len);
     case CALL_pli_read:
@@ -774,8 +843,14 @@ static void *makes(int s, const struct drawn *d, struct answer *a, struct output
     h26x_rtp_receiver g = {NULL};
     const h26x_access_units_config config = config_of(d);
     const h26x_rtp_payload_types types = {96, 97, 98, 99, 100, d->x % 8 != 0, d->y % 8 != 0, d->z % 8 != 0, d->x % 5 != 0};
+    const h26x_rtp_streams streams = {1, 2, d->x & 0xffff, d->y & 0xffff, d->z % 8 ? 96 : d->z >> 8 & 0xff,
+                                      d->x % 8 ? 97 : d->y & 0xff, d->numbers};
+    h26x_rtp_sender b = {NULL};
     h26x_sdp f = {NULL};
     switch (d->call) {
+    case CALL_rtp_sender_new:
+        a->result = l->rtp_sender_new(&streams, d->z % 3 ? 3000 : d->x % 200, &b);
+        return b.at;
     case CALL_access_units_new:
         a->result = l->access_units_new(&config, &u);
         return u.at;
@@ -831,6 +906,8 @@ static enum kind kind_made(enum call call)
         return ACCESS_UNITS;
     case CALL_rtp_receiver_new:
         return RTP_RECEIVER;
+    case CALL_rtp_sender_new:
+        return RTP_SENDER;
     case CALL_sdp_read:
     case CALL_sdp_of_payload:
     case CALL_sdp_answer:
@@ -885,6 +962,18 @@ static uint64_t folded_statistics(const h26x_rtp_statistics *it)
     return FOLD(parts);
 }
 
+/* And an element of its extension and the blocks of a redundant payload. */
+static uint64_t folded_parts(const h26x_rtp_element *element, const h26x_red_block *blocks)
+{
+    uint64_t parts[3 + 4 * POINTS] = {element->begin, element->len, element->id};
+    for (size_t i = 0; i < POINTS; i++) {
+        const h26x_red_block *it = &blocks[i];
+        const uint64_t block[] = {it->begin, it->len, it->timestamp_offset, it->payload_type};
+        memcpy(parts + 3 + 4 * i, block, sizeof block);
+    }
+    return FOLD(parts);
+}
+
 /* And what is told of a datagram and of its sources. */
 static uint64_t folded_told(const h26x_rtp_told *it)
 {
@@ -899,13 +988,28 @@ static uint64_t folded_sources(const h26x_rtp_sources *it)
     return FOLD(parts);
 }
 
+/* And the streams of a sender, and what it sent. */
+static uint64_t folded_streams(const h26x_rtp_streams *it)
+{
+    const uint64_t parts[] = {it->ssrc, it->rtx_ssrc, it->sequence, it->rtx_sequence, it->payload_type,
+                              it->rtx_payload_type, it->has_rtx};
+    return FOLD(parts);
+}
+
+static uint64_t folded_sent(const h26x_rtp_sent *it)
+{
+    const uint64_t parts[] = {it->packets, it->bytes, it->rtx_packets, it->rtx_bytes};
+    return FOLD(parts);
+}
+
 /* Gives one library a call; the pointer of a handle that it made. */
 static void *give(int s, const struct drawn *d)
 {
     struct answer *a = &answers[s];
     struct outputs o = {11, 12, d->wants >> 8 & 1 ? d->x % 3 : 0, 13, 14, {15, 16}, {17, 18, 19, 20}, 21, 22,
                         {.len = 23}, {.taken = 24}, 25, {.flags = 26}, {{.max_br = 27}}, {.payload = 28}, {.ssrc = 29}, 30,
-                        {.ssrc = 31}, {.media = 32}, {.bytes = 33}};
+                        {.ssrc = 31}, {.media = 32}, {.bytes = 33}, {.len = 34}, {.ssrc = 35}, {.bytes = 36}, {.len = 37},
+                        {{.len = 38}}};
     void *made = NULL;
     *a = (struct answer){.result = 0};
     memset(a->to, 0xee, sizeof a->to);
@@ -928,12 +1032,15 @@ static void *give(int s, const struct drawn *d)
         a->result = receives(s, d, a, &o);
     else if (d->call < CALL_rtp_receiver_push)
         a->result = receives_units(s, d, a, &o);
-    else
+    else if (d->call < CALL_rtp_sender_send)
         a->result = receives_datagrams(s, d, a, &o);
+    else
+        a->result = sends_datagrams(s, d, a, &o);
     const h26x_access_unit *unit = &o.unit;
     const h26x_access_units_counts *counts = &o.counts;
     const uint64_t numbers[NUMBERS] = {
-        o.count, o.size, o.extra ^ o.value << 8, o.number, (uint64_t)o.gap << 16 | (uint64_t)o.profile << 8 | o.level,
+        o.count ^ (uint64_t)o.so_far.len << 20, o.size,
+        o.extra ^ o.value << 8 ^ (uint64_t)o.so_far.extra << 56 ^ (uint64_t)o.so_far.timestamp << 24, o.number, (uint64_t)o.gap << 16 | (uint64_t)o.profile << 8 | o.level,
         o.why.first ^ (uint64_t)o.why.second << 32,
         (uint64_t)o.shown.kind << 32 | (uint64_t)o.shown.header << 16 | o.shown.word, o.shown.parts,
         unit->len, unit->timestamp, unit->missing, unit->first, unit->last, unit->extra, unit->is_whole,
@@ -943,7 +1050,8 @@ static void *give(int s, const struct drawn *d)
         o.said.flags, o.said.len,
         (uint64_t)o.said.frame_only << 2 | (uint64_t)o.said.multilayer << 1 | o.said.general, folded(&o.points[0]),
         folded(&o.points[1]), folded(&o.points[2]), folded_packet(&o.packet), folded_report(&o.report), o.media,
-        folded_statistics(&counted[s]), folded_told(&o.told), folded_sources(&o.sources), folded_statistics(&o.counted)};
+        folded_statistics(&counted[s]), folded_told(&o.told), folded_sources(&o.sources), folded_statistics(&o.counted),
+        folded_streams(&o.streams), folded_sent(&o.sent), folded_parts(&o.element, o.blocks)};
     memcpy(a->numbers, numbers, sizeof numbers);
     return made;
 }
@@ -963,6 +1071,8 @@ static void put_down(struct held *h, enum kind kind)
             libraries[s].receiver_free((h26x_receiver){{at}});
         if (kind == ACCESS_UNITS)
             libraries[s].access_units_free((h26x_access_units){at});
+        if (kind == RTP_SENDER)
+            libraries[s].rtp_sender_free((h26x_rtp_sender){at});
         if (kind == RTP_RECEIVER)
             libraries[s].rtp_receiver_free((h26x_rtp_receiver){at});
         if (kind == SDP)
@@ -985,7 +1095,7 @@ static void take_up(const struct drawn *d, void *const made[2])
 static bool is_none(const struct drawn *d)
 {
     return (d->call == CALL_depacketizer_same && (d->other_h->kind == NONE || d->other_h == d->h))
-        || ((d->call == CALL_sdp_answer || d->call == CALL_sdp_answer_with) && d->other_h->kind == NONE);
+        || (CALL_sdp_answer <= d->call && d->call <= CALL_sdp_accepts_declared && d->other_h->kind == NONE);
 }
 
 /* Keeps the packets that were copied. */

@@ -285,6 +285,88 @@ static void check_red(struct tally *t)
     }
 }
 
+static bool is_block(const h26x_red_block *a, const h26x_red_block *b)
+{
+    return a->begin == b->begin && a->len == b->len && a->timestamp_offset == b->timestamp_offset
+        && a->payload_type == b->payload_type;
+}
+
+/* The blocks before the primary one, the first of which are told where there is no room for all. */
+static void check_red_blocks(struct tally *t)
+{
+    static const struct {
+        const char *bytes;
+        uint32_t code;
+        size_t count;
+        h26x_red_block blocks[2];
+    } rows[] = {
+        {"60 65", H26X_OK, 0, {{0}}},
+        {"87028002 05 aabb cc", H26X_OK, 1, {{5, 2, 160, 7}}},
+        {"87028002 ff000001 7f aabb dd", H26X_OK, 2, {{9, 2, 160, 7}, {11, 1, 0, 127}}},
+        {"80000000 fffffc00 00", H26X_OK, 2, {{9, 0, 0, 0}, {9, 0, 16383, 127}}},
+        {"870280", H26X_RED_HEADERS_PAST_THE_END, 9, {{0}}},
+        {"87028002 05 aa", H26X_RED_BLOCKS_PAST_THE_END, 9, {{0}}},
+    };
+    for (size_t i = 0; i < sizeof rows / sizeof rows[0]; i++) {
+        const struct bytes in = bytes_of(rows[i].bytes);
+        const size_t there = rows[i].code == H26X_OK ? rows[i].count : 0;
+        for (size_t room = 0; room <= 3; room++) {
+            h26x_red_block blocks[3] = {{.len = 99}, {.len = 99}, {.len = 99}};
+            size_t count = 9;
+            expect_at(t, h26x_red_blocks(in.at, in.len, blocks, room, &count) == rows[i].code, rows[i].bytes, __FILE__,
+                      __LINE__);
+            expect_at(t, count == rows[i].count, rows[i].bytes, __FILE__, __LINE__);
+            for (size_t j = 0; j < 3; j++)
+                expect(t, j < room && j < there ? is_block(&blocks[j], &rows[i].blocks[j]) : blocks[j].len == 99);
+        }
+    }
+}
+
+/* ---- Elements of header extensions ---- */
+
+/* All elements by RFC 8285, 4.2 and 4.3, each as its place, its length and its id, and the code behind the last. */
+static void check_elements(struct tally *t)
+{
+    static const struct {
+        const char *bytes;
+        uint16_t profile;
+        uint32_t code;
+        h26x_rtp_element elements[4];
+    } rows[] = {
+        {"10aa 21bbcc 0000 33d0d1d2d3", 0xbede, H26X_RTP_NO_ELEMENT, {{1, 1, 1}, {3, 2, 2}, {8, 4, 3}}},
+        {"0100 0201bb 00 0304d0d1d2d3", 0x1000, H26X_RTP_NO_ELEMENT, {{2, 0, 1}, {4, 1, 2}, {8, 4, 3}}},
+        {"0f01aa ff00 00", 0x100f, H26X_RTP_NO_ELEMENT, {{2, 1, 15}, {5, 0, 255}}},
+        {"", 0xbede, H26X_RTP_NO_ELEMENT, {{0}}},
+        {"000000", 0xbede, H26X_RTP_NO_ELEMENT, {{0}}},
+        {"10aa f000 20bb", 0xbede, H26X_RTP_NO_ELEMENT, {{1, 1, 1}}},
+        {"10aa 01aabb 10cc", 0xbede, H26X_RTP_NO_ELEMENT, {{1, 1, 1}}},
+        {"ef00112233445566778899aabbccddeeff 10aa", 0xbede, H26X_RTP_NO_ELEMENT, {{1, 16, 14}, {18, 1, 1}}},
+        {"10aa 11aa", 0xbede, H26X_RTP_ELEMENT_PAST_THE_END, {{1, 1, 1}}},
+        {"0100 1102aa", 0x1000, H26X_RTP_ELEMENT_PAST_THE_END, {{2, 0, 1}}},
+        {"0100 11", 0x1000, H26X_RTP_ELEMENT_PAST_THE_END, {{2, 0, 1}}},
+        {"10aa", 0x1010, H26X_RTP_NO_ELEMENT, {{0}}},
+        {"10aa", 0x0fff, H26X_RTP_NO_ELEMENT, {{0}}},
+    };
+    for (size_t i = 0; i < sizeof rows / sizeof rows[0]; i++) {
+        const struct bytes in = bytes_of(rows[i].bytes);
+        size_t from = 0;
+        for (const h26x_rtp_element *it = rows[i].elements; it->id != 0; it++) {
+            h26x_rtp_element found = {.len = 99};
+            expect_at(t, h26x_rtp_element_next(rows[i].profile, in.at, in.len, from, &found) == H26X_OK, rows[i].bytes,
+                      __FILE__, __LINE__);
+            expect_at(t, found.begin == it->begin && found.len == it->len && found.id == it->id, rows[i].bytes,
+                      __FILE__, __LINE__);
+            from = found.begin + found.len;
+        }
+        h26x_rtp_element none = {.len = 99};
+        expect_at(t, h26x_rtp_element_next(rows[i].profile, in.at, in.len, from, &none) == rows[i].code, rows[i].bytes,
+                  __FILE__, __LINE__);
+        expect(t, h26x_rtp_element_next(rows[i].profile, in.at, in.len, in.len, &none) == H26X_RTP_NO_ELEMENT);
+        expect(t, h26x_rtp_element_next(rows[i].profile, in.at, in.len, SIZE_MAX, &none) == H26X_RTP_NO_ELEMENT);
+        expect(t, none.len == 99);
+    }
+}
+
 /* ---- RTCP ---- */
 
 #define PLI "81ce0002 01020304 a1a2a3a4"
@@ -600,6 +682,8 @@ void check_datagrams(struct tally *t)
     check_rtx(t);
     check_no_original(t);
     check_red(t);
+    check_red_blocks(t);
+    check_elements(t);
     check_requests(t);
     check_reports(t);
     check_nacks(t);

@@ -93,6 +93,46 @@ static void check_red(struct input in)
     saw(3, code, about(place), about(in.len));
 }
 
+/* Its blocks stand one behind the other, from behind the headers to the primary one. */
+static void check_red_blocks(struct input in)
+{
+    const uint8_t *at = copied(PACKET, in);
+    h26x_red_block blocks[64];
+    size_t count = NOT_SAID, place = NOT_SAID;
+    const uint32_t code = h26x_red_blocks(at, in.len, blocks, 64, &count);
+    expect(code == h26x_red_primary(at, in.len, NULL, &place) && (code == H26X_OK || count == NOT_SAID));
+    if (code != H26X_OK)
+        return;
+    const size_t told = count < 64 ? count : 64;
+    size_t end = 4 * count + 1;
+    for (size_t i = 0; i < told; end += blocks[i++].len)
+        expect(blocks[i].begin == end && blocks[i].len < 1024 && blocks[i].payload_type < 128
+               && blocks[i].timestamp_offset < 16384);
+    expect(told == count ? end == place : end <= place);
+    saw(10, about(count), about(end), about(place));
+}
+
+/* The elements of the bytes in both forms: each behind the one before, and within. */
+static void check_elements(struct input in)
+{
+    static const uint16_t profiles[] = {0xbede, 0x1000, 0x100f, 0x1010};
+    const uint8_t *at = copied(PACKET, in);
+    for (size_t i = 0; i < 4; i++) {
+        h26x_rtp_element it = {0};
+        size_t from = 0, count = 0;
+        uint32_t code;
+        for (; (code = h26x_rtp_element_next(profiles[i], at, in.len, from, &it)) == H26X_OK; count++) {
+            expect(it.begin > from && it.id > 0 && it.begin + it.len <= in.len);
+            expect(i > 0 ? at[it.begin - 2] == it.id && at[it.begin - 1] == it.len
+                         : at[it.begin - 1] == (it.id << 4 | (it.len - 1)));
+            from = it.begin + it.len;
+        }
+        expect(code == H26X_RTP_NO_ELEMENT || (code == H26X_RTP_ELEMENT_PAST_THE_END && i < 3));
+        expect(i < 3 || count == 0);
+        saw(11, i, about(count), code);
+    }
+}
+
 /* A NACK, written again, asks for the same numbers in no more bytes. */
 static bool check_nack(struct input in)
 {
@@ -262,10 +302,13 @@ int LLVMFuzzerTestOneInput(const uint8_t *at, size_t len)
         check_resent(&packet, in);
         check_borne(&packet, in);
         check_red((struct input){in.at + packet.payload, packet.payload_len});
+        check_elements((struct input){in.at + 16 + packet.csrcs_len, packet.extension_len});
     } else {
         expect(code >= H26X_RTP_TOO_SHORT && code <= H26X_RTP_PADDING_TOO_LONG && packet.payload == NOT_SAID);
     }
     check_red(in);
+    check_red_blocks(in);
+    check_elements(in);
     check_rtcp(in);
     check_counts(in);
     check_received(in);

@@ -96,8 +96,10 @@ static void change(h26x_sdp *it, uint32_t codec, const struct text *before, stru
     expect(h26x_sdp_value(it, name, name_len, false, NULL, 0, &len) == H26X_SDP_ABSENT);
     write_format(it, &after);
     check_again(codec, &after);
-    for (uint32_t options = 0; options < 4; options++)
+    for (uint32_t options = 0; options < 4; options++) {
         saw(2, h26x_sdp_broken_rule(it, options, NULL), options, codec);
+        expect(h26x_sdp_agreed(it, it, options, NULL, NULL) == H26X_OK);
+    }
 }
 
 /* Lines of what goes beside video: what is read is written, and that read as the same. */

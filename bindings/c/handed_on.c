@@ -64,6 +64,7 @@ static h26x_depacketizer depacketizer;
 static h26x_receiver receiver;
 static h26x_access_units access_units;
 static h26x_rtp_receiver rtp_receiver;
+static h26x_rtp_sender rtp_sender;
 static const h26x_nack_times nack_times = {10, 60, 5};
 static h26x_sdp format, made_format;
 static const h26x_rtp_header header = {.sequence = 1};
@@ -76,6 +77,7 @@ static struct {
     size_t ends[ROOM], first, second;
     uint16_t numbers[ROOM];
     h26x_access_unit unit;
+    h26x_so_far so_far;
     h26x_access_units_counts counts;
     uint8_t small, small_too;
     uint16_t missing;
@@ -89,10 +91,15 @@ static struct {
     h26x_rtp_told told;
     h26x_rtp_sources sources;
     h26x_rtp_statistics counted;
+    h26x_rtp_streams streams;
+    h26x_rtp_sent sent;
     h26x_rtp_payload payloads[ROOM];
     h26x_push_told pushed[ROOM];
     h26x_receive_told received[ROOM];
     h26x_rtx_format rtx;
+    h26x_sdp_stream sends, receives;
+    h26x_rtp_element element;
+    h26x_red_block blocks[ROOM];
 } there;
 
 /* What a call is given, and what it is to answer. */
@@ -102,6 +109,7 @@ static struct {
     uint16_t *numbers;
     size_t numbers_room;
     h26x_access_unit *unit;
+    h26x_so_far *so_far;
     h26x_access_units_counts *counts;
     size_t *first, *second;
     uint8_t *small, *small_too;
@@ -117,10 +125,16 @@ static struct {
     h26x_rtp_told *told;
     h26x_rtp_sources *sources;
     h26x_rtp_statistics *counted;
+    h26x_rtp_streams *streams;
+    h26x_rtp_sent *sent;
     h26x_rtp_payload *payloads;
     h26x_push_told *pushed;
     h26x_receive_told *received;
     h26x_rtx_format *rtx;
+    h26x_sdp_stream *sends, *receives;
+    h26x_rtp_element *element;
+    h26x_red_block *blocks;
+    size_t blocks_room;
     size_t payloads_len, pushed_room, received_room;
     size_t value, other_value;
     uint32_t answer;
@@ -157,7 +171,13 @@ enum {
     PAYLOADS = 67108864,
     PUSHED = 134217728,
     RECEIVED = 268435456,
-    RTX = 536870912
+    RTX = 536870912,
+    /* (one bit for what no call is given together) */
+    SO_FAR = 1073741824,
+    STREAMS = SO_FAR,
+    SENDING = SO_FAR,
+    ELEMENT = SO_FAR,
+    BLOCKS = SO_FAR
 };
 
 static size_t handed_on;
@@ -171,38 +191,9 @@ static size_t any_len(const void *at)
 
 #define ANY(which, at) (which) != 0 && nondet_bool() ? (at) : NULL
 
-static void give(unsigned which)
+/* Lengths of what is given so. */
+static void give_lengths(unsigned which)
 {
-    given.in.at = ANY(which & IN, there.in);
-    given.extension.at = ANY(which & EXTENSION, there.extension);
-    given.to.at = ANY(which & TO, there.to);
-    given.ends = ANY(which & ENDS, there.ends);
-    given.first = ANY(which & FIRST, &there.first);
-    given.second = ANY(which & SECOND, &there.second);
-    given.small = ANY(which & SMALL, &there.small);
-    given.small_too = ANY(which & SMALL_TOO, &there.small_too);
-    given.missing = ANY(which & MISSING, &there.missing);
-    given.number = ANY(which & NUMBER, &there.number);
-    given.why = ANY(which & WHY, &there.why);
-    given.numbers = ANY(which & NUMBERS, there.numbers);
-    given.unit = ANY(which & UNIT, &there.unit);
-    given.counts = ANY(which & COUNTS, &there.counts);
-    given.long_number = ANY(which & LONG_NUMBER, &there.long_number);
-    given.to_too.at = ANY(which & TO_TOO, there.to_too);
-    given.said = ANY(which & SAID, &there.said);
-    given.rtx = ANY(which & RTX, &there.rtx);
-    given.points = ANY(which & POINTS, there.points);
-    given.packet = ANY(which & PACKET, &there.packet);
-    given.report = ANY(which & REPORT, &there.report);
-    given.number_too = ANY(which & NUMBER_TOO, &there.number_too);
-    given.told = ANY(which & DATAGRAM, &there.told);
-    given.sources = ANY(which & SOURCES, &there.sources);
-    given.counted = ANY(which & STATISTICS, &there.counted);
-    given.payload.at = ANY(which & PAYLOAD, there.payload);
-    given.padding.at = ANY(which & PADDING, there.padding);
-    given.payloads = ANY(which & PAYLOADS, there.payloads);
-    given.pushed = ANY(which & PUSHED, there.pushed);
-    given.received = ANY(which & RECEIVED, there.received);
     if ((which & IN) != 0)
         given.in.len = any_len(given.in.at);
     if ((which & EXTENSION) != 0)
@@ -221,12 +212,56 @@ static void give(unsigned which)
         given.numbers_room = any_len(given.numbers);
     if ((which & POINTS) != 0)
         given.points_room = any_len(given.points);
+    if ((which & BLOCKS) != 0)
+        given.blocks_room = any_len(given.blocks);
     if ((which & PAYLOADS) != 0)
         given.payloads_len = any_len(given.payloads);
     if ((which & PUSHED) != 0)
         given.pushed_room = any_len(given.pushed);
     if ((which & RECEIVED) != 0)
         given.received_room = any_len(given.received);
+}
+
+static void give(unsigned which)
+{
+    given.in.at = ANY(which & IN, there.in);
+    given.extension.at = ANY(which & EXTENSION, there.extension);
+    given.to.at = ANY(which & TO, there.to);
+    given.ends = ANY(which & ENDS, there.ends);
+    given.first = ANY(which & FIRST, &there.first);
+    given.second = ANY(which & SECOND, &there.second);
+    given.small = ANY(which & SMALL, &there.small);
+    given.small_too = ANY(which & SMALL_TOO, &there.small_too);
+    given.missing = ANY(which & MISSING, &there.missing);
+    given.number = ANY(which & NUMBER, &there.number);
+    given.why = ANY(which & WHY, &there.why);
+    given.numbers = ANY(which & NUMBERS, there.numbers);
+    given.unit = ANY(which & UNIT, &there.unit);
+    given.so_far = ANY(which & SO_FAR, &there.so_far);
+    given.counts = ANY(which & COUNTS, &there.counts);
+    given.long_number = ANY(which & LONG_NUMBER, &there.long_number);
+    given.to_too.at = ANY(which & TO_TOO, there.to_too);
+    given.said = ANY(which & SAID, &there.said);
+    given.rtx = ANY(which & RTX, &there.rtx);
+    given.sends = ANY(which & STREAMS, &there.sends);
+    given.receives = ANY(which & STREAMS, &there.receives);
+    given.points = ANY(which & POINTS, there.points);
+    given.packet = ANY(which & PACKET, &there.packet);
+    given.report = ANY(which & REPORT, &there.report);
+    given.number_too = ANY(which & NUMBER_TOO, &there.number_too);
+    given.told = ANY(which & DATAGRAM, &there.told);
+    given.sources = ANY(which & SOURCES, &there.sources);
+    given.counted = ANY(which & STATISTICS, &there.counted);
+    given.streams = ANY(which & SENDING, &there.streams);
+    given.sent = given.streams != NULL ? &there.sent : NULL;
+    given.payload.at = ANY(which & PAYLOAD, there.payload);
+    given.padding.at = ANY(which & PADDING, there.padding);
+    given.element = ANY(which & ELEMENT, &there.element);
+    given.blocks = ANY(which & BLOCKS, there.blocks);
+    given.payloads = ANY(which & PAYLOADS, there.payloads);
+    given.pushed = ANY(which & PUSHED, there.pushed);
+    given.received = ANY(which & RECEIVED, there.received);
+    give_lengths(which);
     given.value = nondet_size();
     given.other_value = given.value / 2;
     given.answer = (uint32_t)given.value;
@@ -277,6 +312,13 @@ static void writes_ends(size_t *at, size_t len)
         at[0] = at[len - 1] = 1;
 }
 
+/* (they are 0, or as writes_ends left them) */
+static void reads_ends(const size_t *at, size_t len)
+{
+    is_buffer(at, len, given.ends, given.ends_room);
+    expect(len == 0 || (at[0] <= 1 && at[len - 1] <= 1));
+}
+
 static void writes_numbers(uint16_t *at, size_t len)
 {
     is_buffer(at, len, given.numbers, given.numbers_room);
@@ -296,6 +338,13 @@ static void writes_points(h26x_capability_point *at, size_t len)
     is_buffer(at, len, given.points, given.points_room);
     if (len != 0)
         at[0].tool = at[len - 1].tool = 1;
+}
+
+static void writes_blocks(h26x_red_block *at, size_t len)
+{
+    is_buffer(at, len, given.blocks, given.blocks_room);
+    if (len != 0)
+        at[0].payload_type = at[len - 1].payload_type = 1;
 }
 
 static void reads_payloads(const h26x_rtp_payload *at, size_t len)
@@ -753,6 +802,23 @@ static void check_access_units_next(void)
                                     given.unit));
 }
 
+STUB(access_units_so_far);
+bool proved_access_units_so_far(const h26x_access_units *u, size_t from, uint8_t *to, size_t room,
+                                h26x_so_far *so_far)
+{
+    expect(u == &access_units && from == given.value);
+    writes_to(to, room);
+    is_output(so_far, given.so_far);
+    return answer() != 0;
+}
+
+static void check_access_units_so_far(void)
+{
+    give(TO | SO_FAR);
+    hands_on_bool(
+        h26x_access_units_so_far(&access_units, given.value, given.to.at, given.to.len, given.so_far));
+}
+
 STUB(access_units_deadline);
 bool proved_access_units_deadline(const h26x_access_units *u, uint32_t *at)
 {
@@ -1023,6 +1089,23 @@ static void check_rtp_read(void)
     hands_on(h26x_rtp_read(given.in.at, given.in.len, given.packet));
 }
 
+STUB(rtp_element_next);
+uint32_t proved_rtp_element_next(uint16_t profile, const uint8_t *extension, size_t extension_len, size_t from,
+                                 h26x_rtp_element *element)
+{
+    expect(profile == (uint16_t)given.value && from == given.other_value);
+    reads(extension, extension_len, given.extension);
+    is_output(element, given.element);
+    return answer();
+}
+
+static void check_rtp_element_next(void)
+{
+    give(EXTENSION | ELEMENT);
+    hands_on(h26x_rtp_element_next((uint16_t)given.value, given.extension.at, given.extension.len, given.other_value,
+                                   given.element));
+}
+
 STUB(rtp_original);
 uint32_t proved_rtp_original(const uint8_t *datagram, size_t datagram_len, uint8_t payload_type, uint32_t ssrc,
                              h26x_rtp_packet *packet)
@@ -1113,6 +1196,22 @@ static void check_red_primary(void)
 {
     give(IN | SMALL | FIRST);
     hands_on(h26x_red_primary(given.in.at, given.in.len, given.small, given.first));
+}
+
+STUB(red_blocks);
+uint32_t proved_red_blocks(const uint8_t *payload, size_t payload_len, h26x_red_block *blocks, size_t blocks_room,
+                           size_t *count)
+{
+    reads(payload, payload_len, given.in);
+    writes_blocks(blocks, blocks_room);
+    is_output(count, given.first);
+    return answer();
+}
+
+static void check_red_blocks(void)
+{
+    give(IN | BLOCKS | FIRST);
+    hands_on(h26x_red_blocks(given.in.at, given.in.len, given.blocks, given.blocks_room, given.first));
 }
 
 STUB(pli_write);
@@ -1328,6 +1427,23 @@ static void check_rtp_receiver_next(void)
     hands_on(h26x_rtp_receiver_next(&rtp_receiver, (uint32_t)given.value, given.to.at, given.to.len, given.unit));
 }
 
+STUB(rtp_receiver_so_far);
+bool proved_rtp_receiver_so_far(const h26x_rtp_receiver *r, size_t from, uint8_t *to, size_t room,
+                               h26x_so_far *so_far)
+{
+    expect(r == &rtp_receiver && from == given.value);
+    writes_to(to, room);
+    is_output(so_far, given.so_far);
+    return answer() != 0;
+}
+
+static void check_rtp_receiver_so_far(void)
+{
+    give(TO | SO_FAR);
+    hands_on_bool(
+        h26x_rtp_receiver_so_far(&rtp_receiver, given.value, given.to.at, given.to.len, given.so_far));
+}
+
 STUB(rtp_receiver_deadline);
 bool proved_rtp_receiver_deadline(const h26x_rtp_receiver *r, uint32_t *at)
 {
@@ -1404,6 +1520,88 @@ static void check_rtp_receiver_count(void)
     hands_on(h26x_rtp_receiver_count(&rtp_receiver, given.counts));
 }
 
+/* ---- Sending access units, as datagrams ---- */
+
+STUB(rtp_sender_free);
+void proved_rtp_sender_free(h26x_rtp_sender s)
+{
+    expect(s.at == &there);
+    handed_on++;
+}
+
+static void check_rtp_sender_free(void)
+{
+    h26x_rtp_sender s = {nondet_bool() ? &there : NULL};
+    handed_on = 0;
+    h26x_rtp_sender_free(s);
+    expect(handed_on == (s.at != NULL));
+}
+
+STUB(rtp_sender_send);
+uint32_t proved_rtp_sender_send(h26x_rtp_sender *s, uint32_t timestamp, uint16_t profile, const uint8_t *extension,
+                                size_t extension_len, size_t headroom, uint8_t *packets, size_t packets_len,
+                                const size_t *ends, size_t ends_len, size_t *len)
+{
+    expect(s == &rtp_sender && timestamp == (uint32_t)given.value && profile == (uint16_t)given.other_value
+           && headroom == given.value);
+    reads(extension, extension_len, given.extension);
+    writes_to(packets, packets_len);
+    reads_ends(ends, ends_len);
+    is_output(len, given.first);
+    return answer();
+}
+
+static void check_rtp_sender_send(void)
+{
+    give(EXTENSION | TO | ENDS | FIRST);
+    hands_on(h26x_rtp_sender_send(&rtp_sender, (uint32_t)given.value, (uint16_t)given.other_value, given.extension.at,
+                                  given.extension.len, given.value, given.to.at, given.to.len, given.ends,
+                                  given.ends_room, given.first));
+}
+
+STUB(rtp_sender_resend);
+uint32_t proved_rtp_sender_resend(h26x_rtp_sender *s, uint16_t number, uint8_t *to, size_t room, size_t *len)
+{
+    expect(s == &rtp_sender && number == (uint16_t)given.value);
+    writes_to(to, room);
+    is_output(len, given.first);
+    return answer();
+}
+
+static void check_rtp_sender_resend(void)
+{
+    give(TO | FIRST);
+    hands_on(h26x_rtp_sender_resend(&rtp_sender, (uint16_t)given.value, given.to.at, given.to.len, given.first));
+}
+
+STUB(rtp_sender_streams);
+uint32_t proved_rtp_sender_streams(const h26x_rtp_sender *s, h26x_rtp_streams *streams)
+{
+    expect(s == &rtp_sender);
+    is_output(streams, given.streams);
+    return answer();
+}
+
+static void check_rtp_sender_streams(void)
+{
+    give(SENDING);
+    hands_on(h26x_rtp_sender_streams(&rtp_sender, given.streams));
+}
+
+STUB(rtp_sender_count);
+uint32_t proved_rtp_sender_count(const h26x_rtp_sender *s, h26x_rtp_sent *sent)
+{
+    expect(s == &rtp_sender);
+    is_output(sent, given.sent);
+    return answer();
+}
+
+static void check_rtp_sender_count(void)
+{
+    give(SENDING);
+    hands_on(h26x_rtp_sender_count(&rtp_sender, given.sent));
+}
+
 /* ---- Format parameters of SDP ---- */
 
 STUB(sdp_free);
@@ -1450,6 +1648,22 @@ static void check_sdp_of_payload(void)
 {
     give(IN);
     hands_on(h26x_sdp_of_payload((uint32_t)given.value, given.in.at, given.in.len, &made_format));
+}
+
+STUB(sdp_agreed);
+uint32_t proved_sdp_agreed(const h26x_sdp *own, const h26x_sdp *other, uint32_t options, h26x_sdp_stream *sends,
+                           h26x_sdp_stream *receives)
+{
+    expect(own == &format && other == &made_format && options == (uint32_t)given.value);
+    is_output(sends, given.sends);
+    is_output(receives, given.receives);
+    return answer();
+}
+
+static void check_sdp_agreed(void)
+{
+    give(STREAMS);
+    hands_on(h26x_sdp_agreed(&format, &made_format, (uint32_t)given.value, given.sends, given.receives));
 }
 
 STUB(sdp_broken_rule);
@@ -1593,6 +1807,24 @@ static void check_sdp_unit(void)
     give(IN | TO | FIRST | WHY);
     hands_on(h26x_sdp_unit(&format, given.in.at, given.in.len, given.value, given.to.at, given.to.len,
                            given.first, given.why));
+}
+
+STUB(sdp_level_unit);
+uint32_t proved_sdp_level_unit(const h26x_sdp *h, uint64_t level, size_t i, uint8_t *to, size_t room, size_t *len,
+                               h26x_refusal *why)
+{
+    expect(h == &format && level == given.other_value && i == given.value);
+    writes_to(to, room);
+    is_output(len, given.first);
+    is_output(why, given.why);
+    return answer();
+}
+
+static void check_sdp_level_unit(void)
+{
+    give(TO | FIRST | WHY);
+    hands_on(h26x_sdp_level_unit(&format, given.other_value, given.value, given.to.at, given.to.len, given.first,
+                                 given.why));
 }
 
 STUB(sdp_other);
@@ -1767,7 +1999,7 @@ static void check_rtx_format_write(void)
     hands_on(h26x_rtx_format_write(&there.rtx, given.to.at, given.to.len, given.first));
 }
 
-int main(void)
+static void check_sending(void)
 {
     in_each_case(check_packetizer_free);
     in_each_case(check_packetize);
@@ -1780,6 +2012,10 @@ int main(void)
     in_each_case(check_units_size);
     in_each_case(check_packet_copy);
     in_each_case(check_packets_copy);
+}
+
+static void check_receiving(void)
+{
     in_each_case(check_depacketizer_free);
     in_each_case(check_depacketize);
     in_each_case(check_written_copy);
@@ -1787,16 +2023,25 @@ int main(void)
     in_each_case(check_receive);
     in_each_case(check_receive_all);
     in_each_case(check_receiver_skip);
+}
+
+static void check_access_units(void)
+{
     in_each_case(check_access_units_free);
     in_each_case(check_access_units_push);
     in_each_case(check_access_units_push_all);
     in_each_case(check_access_units_skip);
     in_each_case(check_access_units_next);
+    in_each_case(check_access_units_so_far);
     in_each_case(check_access_units_deadline);
     in_each_case(check_access_units_missing);
     in_each_case(check_access_units_nacks);
     in_each_case(check_access_units_begin_at);
     in_each_case(check_access_units_count);
+}
+
+static void check_looking(void)
+{
     in_each_case(check_h265_part_copy);
     in_each_case(check_h265_paci_packet);
     in_each_case(check_is_partition_head);
@@ -1808,13 +2053,19 @@ int main(void)
     in_each_case(check_next_unit);
     in_each_case(check_unit_is_plain);
     in_each_case(check_h264_profile_level);
+}
+
+static void check_rtp(void)
+{
     in_each_case(check_is_rtcp);
     in_each_case(check_rtp_read);
+    in_each_case(check_rtp_element_next);
     in_each_case(check_rtp_original);
     in_each_case(check_rtp_write);
     in_each_case(check_rtp_write_before);
     in_each_case(check_rtx_write);
     in_each_case(check_red_primary);
+    in_each_case(check_red_blocks);
     in_each_case(check_pli_write);
     in_each_case(check_pli_read);
     in_each_case(check_fir_write);
@@ -1825,18 +2076,33 @@ int main(void)
     in_each_case(check_nack_read);
     in_each_case(check_rtcp_next);
     in_each_case(check_rtp_statistics_report);
+}
+
+static void check_rtp_receivers(void)
+{
     in_each_case(check_rtp_receiver_free);
     in_each_case(check_rtp_receiver_sources);
     in_each_case(check_rtp_receiver_push);
     in_each_case(check_rtp_receiver_next);
+    in_each_case(check_rtp_receiver_so_far);
     in_each_case(check_rtp_receiver_deadline);
     in_each_case(check_rtp_receiver_nacks);
     in_each_case(check_rtp_receiver_statistics);
     in_each_case(check_rtp_receiver_report);
     in_each_case(check_rtp_receiver_count);
+    in_each_case(check_rtp_sender_free);
+    in_each_case(check_rtp_sender_send);
+    in_each_case(check_rtp_sender_resend);
+    in_each_case(check_rtp_sender_streams);
+    in_each_case(check_rtp_sender_count);
+}
+
+static void check_sdp(void)
+{
     in_each_case(check_sdp_free);
     in_each_case(check_sdp_read);
     in_each_case(check_sdp_of_payload);
+    in_each_case(check_sdp_agreed);
     in_each_case(check_sdp_broken_rule);
     in_each_case(check_sdp_name);
     in_each_case(check_sdp_write);
@@ -1846,6 +2112,7 @@ int main(void)
     in_each_case(check_sdp_number);
     in_each_case(check_sdp_units);
     in_each_case(check_sdp_unit);
+    in_each_case(check_sdp_level_unit);
     in_each_case(check_sdp_other);
     in_each_case(check_sdp_max_don_diff);
     in_each_case(check_sdp_constraints);
@@ -1857,6 +2124,17 @@ int main(void)
     in_each_case(check_repairmap_write);
     in_each_case(check_rtx_format_read);
     in_each_case(check_rtx_format_write);
+}
+
+int main(void)
+{
+    check_sending();
+    check_receiving();
+    check_access_units();
+    check_looking();
+    check_rtp();
+    check_rtp_receivers();
+    check_sdp();
 #ifndef __CPROVER__
     printf("%zu cases\n", cases);
 #endif

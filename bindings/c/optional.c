@@ -148,6 +148,11 @@ static void check_null_round_payloads(struct tally *t, size_t len)
     expect(t, h26x_rtp_original(NULL, len, 96, 1, NULL) == H26X_RTP_TOO_SHORT);
     expect(t, h26x_rtx_write(NULL, len, 96, 1, 2, to, 40, &size) == H26X_RTP_TOO_SHORT);
     expect(t, h26x_red_primary(NULL, len, &small, &size) == H26X_RED_HEADERS_PAST_THE_END && small == 9 && size == 9);
+    expect(t, h26x_red_blocks(NULL, len, NULL, len, &count) == H26X_RED_HEADERS_PAST_THE_END && count == 9);
+    expect(t, h26x_red_blocks((const uint8_t *)"\x80\0\0\0\x60", 5, NULL, len, NULL) == H26X_OK);
+    expect(t, h26x_rtp_element_next(0xbede, NULL, len, 0, NULL) == H26X_RTP_NO_ELEMENT);
+    expect(t, h26x_rtp_element_next(0xbede, (const uint8_t *)"\x10", 1, 0, NULL) == H26X_RTP_ELEMENT_PAST_THE_END);
+    expect(t, h26x_rtp_element_next(0xbede, (const uint8_t *)"\x10", 2, 0, NULL) == H26X_OK);
     expect(t, !h26x_pli_read(NULL, len, &sender, NULL) && !h26x_fir_read(NULL, len, &sender, NULL, NULL));
     expect(t, !h26x_receiver_report_read(NULL, len, &sender, NULL) && sender == 9 && to[0] == 7);
     expect(t, !h26x_nack_read(NULL, len, &sender, NULL, NULL, len, &count) && sender == 9 && count == 9);
@@ -285,14 +290,14 @@ static bool is_code(uint32_t n)
 {
     return n <= H26X_UNIT_TOO_LONG || (H26X_SDP_OPEN_BRACE <= n && n <= H26X_SDP_NO_PROFILE)
         || (H26X_SDP_NO_ANSWER <= n && n <= H26X_SDP_NOT_A_VALUE)
-        || (H26X_RTP_TOO_SHORT <= n && n <= H26X_SDP_RULE_HASH_TYPES);
+        || (H26X_RTP_TOO_SHORT <= n && n <= H26X_RTP_ELEMENT_PAST_THE_END);
 }
 
 /* Each code has words of its own, and so do numbers that are none. */
 static void check_words(struct tally *t)
 {
     char version[16];
-    for (uint32_t code = 0; code <= H26X_SDP_RULE_HASH_TYPES + 1; code++) {
+    for (uint32_t code = 0; code <= H26X_RTP_ELEMENT_PAST_THE_END + 1; code++) {
         for (uint32_t other = 0; other < code; other++)
             expect(t, (strcmp(h26x_strerror(code), h26x_strerror(other)) == 0) == (!is_code(code) && !is_code(other)));
         expect(t, is_code(code) == (strcmp(h26x_strerror(code), h26x_strerror(UINT32_MAX)) != 0));

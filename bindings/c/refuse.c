@@ -593,6 +593,7 @@ static void refuse_receiving_units(const struct codec *c)
     expect(missing == 2 && numbers[0] == 14 && numbers[1] == 15);
     refuse_each(h26x_access_units_nacks(&u, 7, &times, numbers, 8, &missing), missing == 0 && numbers[0] == 14);
     expect(missing == 4 && numbers[0] == 16 && numbers[3] == 19);
+    without_memory(!h26x_access_units_so_far(&u, 0, to, ROOM, NULL));
     without_memory(h26x_access_units_deadline(&u, &at) && at == 57);
     without_memory(h26x_access_units_begin_at(&u, 9, &at) == H26X_OK && at == 0);
     refuse_each(h26x_access_units_next(&u, 57, to, ROOM, &told), told.len == 9);
@@ -623,6 +624,7 @@ static void refuse_receiving_datagrams(const struct codec *c)
     h26x_rtp_told told = {.became = 9};
     h26x_rtp_sources sources = {.media = 9};
     h26x_rtp_statistics counted;
+    h26x_so_far so_far;
     h26x_access_unit unit_told = {.first = 9};
     h26x_access_units_counts counts;
     h26x_report report;
@@ -642,6 +644,7 @@ static void refuse_receiving_datagrams(const struct codec *c)
     without_memory(h26x_rtp_receiver_push(&r, 0, 0, packet, 11, &told) == H26X_RTP_TOO_SHORT);
     refuse_each(h26x_rtp_receiver_nacks(&r, 0, &times, numbers, 8, &count), count == 0 && numbers[0] == 9);
     expect(count == 1 && numbers[0] == 11);
+    without_memory(h26x_rtp_receiver_so_far(&r, 4, to, ROOM, &so_far) && so_far.len == 9);
     without_memory(h26x_rtp_receiver_deadline(&r, &at) && at == 50);
     without_memory(h26x_rtp_receiver_sources(&r, &sources) == H26X_OK && sources.media == 1 && sources.has_media);
 
@@ -665,6 +668,32 @@ static void refuse_receiving_datagrams(const struct codec *c)
     without_memory(h26x_rtp_receiver_set_config(&r, &config) == H26X_OK);
     without_memory(h26x_rtp_receiver_count(&r, &counts) == H26X_OK && counts.taken == 2 && counts.units == 2);
     h26x_rtp_receiver_free(r);
+}
+
+/* Packets that are sent: for what is held of them memory may lack, and then nothing is sent. */
+static void refuse_sending_datagrams(void)
+{
+    const h26x_rtp_streams streams = {1, 2, 10, 20, 96, 97, true};
+    const size_t ends[2] = {40, 90};
+    h26x_rtp_sender s = {NULL};
+    h26x_rtp_streams told;
+    h26x_rtp_sent sent;
+    size_t len = 9;
+    refuse_each(h26x_rtp_sender_new(&streams, 100, &s), s.at == NULL);
+    for (uint16_t i = 0; i < 4; i++) {
+        memset(packet, 7, 90);
+        len = 9;
+        refuse_each(h26x_rtp_sender_send(&s, i, 0xbede, unit, i % 2 == 0 ? 0 : 4, 20, packet, 90, ends, 2, &len),
+                    len == 9 && packet[19] == 7 && packet[59] == 7);
+        expect(len == (i % 2 == 0 ? 12U : 20U) && packet[19] != 7 && packet[59] != 7);
+    }
+    without_memory(h26x_rtp_sender_send(&s, 0, 0, NULL, 0, 11, packet, 90, ends, 2, &len) == H26X_NO_ROOM && len == 12);
+    without_memory(h26x_rtp_sender_send(&s, 0, 0, NULL, 0, 20, packet, 89, ends, 2, &len) == H26X_OUT_OF_RANGE);
+    without_memory(h26x_rtp_sender_resend(&s, 17, to, ROOM, &len) == H26X_OK && len == 20 + 2 + 30);
+    without_memory(h26x_rtp_sender_resend(&s, 10, to, ROOM, &len) == H26X_OK && len == 0);
+    without_memory(h26x_rtp_sender_streams(&s, &told) == H26X_OK && told.sequence == 18 && told.rtx_sequence == 21);
+    without_memory(h26x_rtp_sender_count(&s, &sent) == H26X_OK && sent.packets == 8 && sent.bytes == 200);
+    h26x_rtp_sender_free(s);
 }
 
 /* An access unit that ends behind a missing number, and the one that begins there. */
@@ -772,6 +801,8 @@ static void wrap_without_memory(void)
     without_memory(h26x_rtp_original(to, resent, 96, 7, NULL) == H26X_OK && resent == len + 2);
     without_memory(h26x_rtp_write_before(&header, NULL, 0, NULL, 0, false, 12, packet, ROOM, &len) == H26X_OK);
     without_memory(h26x_red_primary((const uint8_t *)"\x60", 1, NULL, NULL) == H26X_OK);
+    without_memory(h26x_red_blocks((const uint8_t *)"\x60", 1, NULL, 0, &count) == H26X_OK && count == 0);
+    without_memory(h26x_rtp_element_next(0xbede, (const uint8_t *)"\x10", 2, 0, NULL) == H26X_OK);
     without_memory(h26x_pli_write(1, 2, to, ROOM, &len) == H26X_OK && h26x_pli_read(to, len, NULL, NULL));
     without_memory(h26x_fir_write(1, 2, 3, to, ROOM, &len) == H26X_OK && h26x_fir_read(to, len, NULL, NULL, NULL));
     without_memory(h26x_receiver_report_write(1, &report, to, ROOM, &len) == H26X_OK
@@ -812,12 +843,15 @@ static void refuse_formats(const struct format *f)
     h26x_refusal why;
     uint64_t value;
     uint32_t number;
+    h26x_sdp_stream sends, receives;
     refuse_each(h26x_sdp_read(f->codec, TEXT(f->line), &it, &why), it.at == NULL && why.first == 0);
     refuse_each(h26x_sdp_answer(&it, &it, &answer), answer.at == NULL);
     h26x_sdp_close(&answer);
     refuse_each(h26x_sdp_answer_with(&it, &it, H26X_SDP_ANY_ORDER | H26X_SDP_WEBRTC, &answer), answer.at == NULL);
     without_memory(h26x_sdp_broken_rule(&it, 0, &why) == H26X_OK);
     without_memory(h26x_sdp_name(&it, 0, to, sizeof to, &len) == H26X_OK && len > 9);
+    without_memory(h26x_sdp_agreed(&it, &it, 0, &sends, &receives) == H26X_OK && sends.is_there && receives.is_there);
+    without_memory(h26x_sdp_accepts_declared(&it, &it, 0) == H26X_OK);
     len = 0;
     memset(to, 0xee, sizeof to);
     refuse_each(h26x_sdp_write(&it, to, sizeof to, &len), len == 0 && to[0] == 0xee);
@@ -843,6 +877,20 @@ static void refuse_formats(const struct format *f)
     without_memory(h26x_sdp_read(f->codec, TEXT("x={"), &answer, &why) == H26X_SDP_OPEN_BRACE);
     h26x_sdp_free(it);
     h26x_sdp_free(answer);
+}
+
+/* Parameter sets of levels, which are read at each call. */
+static void refuse_levels(void)
+{
+    const char *line = "sprop-level-parameter-sets=42e01e:Z0LgHoxo,aM48gA==:42e00d:Z0LgDYxo";
+    h26x_sdp it = {NULL};
+    size_t len = 0;
+    h26x_refusal why;
+    expect(h26x_sdp_read(H26X_H264, TEXT(line), &it, &why) == H26X_OK);
+    memset(to, 0xee, sizeof to);
+    refuse_each(h26x_sdp_level_unit(&it, 60, 1, to, sizeof to, &len, &why), len == 0 && to[0] == 0xee);
+    expect(len == 4 && to[0] == 0x68);
+    h26x_sdp_free(it);
 }
 
 /* Constraints and capability points, which are read at each call. */
@@ -984,6 +1032,7 @@ int main(void)
         refuse_each_placing(&placings[i]);
         place_nothing(placings[i].codec, placings[i].numbers);
     }
+    refuse_sending_datagrams();
     refuse_size();
     receive_with_room();
     receive_without_memory();
@@ -991,6 +1040,7 @@ int main(void)
     wrap_without_memory();
     for (size_t i = 0; i < sizeof formats / sizeof formats[0]; i++)
         refuse_formats(&formats[i]);
+    refuse_levels();
     refuse_values();
     refuse_offers();
     printf("%lu requests refused, nothing lost\n", refused);

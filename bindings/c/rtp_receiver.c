@@ -215,6 +215,18 @@ static bool wants_keyframe(struct both *it, uint32_t now, uint32_t again)
     return wants;
 }
 
+/* What came so far of the access unit that is open, from the third byte on. */
+static void compare_so_far(struct both *it)
+{
+    struct tally *t = it->tally;
+    uint8_t of_r[64] = {7}, of_u[64] = {7};
+    h26x_so_far r_told = {.len = 9}, u_told = {.len = 9};
+    const bool is_open = h26x_access_units_so_far(&it->u, 3, of_u, sizeof of_u, &u_told);
+    expect(t, h26x_rtp_receiver_so_far(&it->r, 3, of_r, sizeof of_r, &r_told) == is_open);
+    expect(t, r_told.len == u_told.len && memcmp(of_r, of_u, sizeof of_r) == 0);
+    expect(t, !is_open || (r_told.timestamp == u_told.timestamp && r_told.extra == u_told.extra));
+}
+
 /* What is asked and told at this tick. */
 static void compare_asked(struct both *it, uint32_t now)
 {
@@ -228,6 +240,7 @@ static void compare_asked(struct both *it, uint32_t now)
     expect(t, r_count == u_count && memcmp(of_r, of_u, sizeof of_r) == 0);
     expect(t, h26x_rtp_receiver_deadline(&it->r, &r_at) == h26x_access_units_deadline(&it->u, &u_at) && r_at == u_at);
     expect(t, h26x_rtp_receiver_keyframe_wanted(&it->r, now, 50) == wants_keyframe(it, now, 50));
+    compare_so_far(it);
 }
 
 static bool is_same_report(const h26x_report *a, const h26x_report *b)
@@ -663,6 +676,7 @@ static void check_wrong_end(struct tally *t, const struct codec *c)
     expect(t, h26x_rtp_receiver_follow(&r, &sources) == H26X_WRONG_END);
     expect(t, h26x_rtp_receiver_sources(&r, &known) == H26X_WRONG_END && known.media == 0x01010101);
     expect(t, h26x_rtp_receiver_next(&r, 0, to, 1, &unit) == H26X_WRONG_END && to[0] == 7);
+    expect(t, !h26x_rtp_receiver_so_far(&r, 0, to, 1, NULL) && to[0] == 7);
     expect(t, !h26x_rtp_receiver_deadline(&r, &at) && at == 7);
     expect(t, h26x_rtp_receiver_nacks(&r, 0, &times, &number, 1, &count) == H26X_WRONG_END);
     expect(t, count == 0 && number == 7);

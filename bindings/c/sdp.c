@@ -432,12 +432,18 @@ static void check_answers(struct tally *t)
     answers(t, H26X_H266, "profile-id=17", "profile-id=33", NULL);
     /* Two codecs have nothing in common, and no option has another bit. */
     h26x_sdp a = format_of(t, H26X_H264, ""), b = format_of(t, H26X_H265, ""), made = {NULL};
+    h26x_sdp_stream sends = {.level = 9}, receives = {.level = 9};
     const uint32_t others[] = {12, 32, 1u << 31, UINT32_MAX};
     for (size_t i = 0; i < 4; i++) {
         h26x_refusal why = {7, 8};
         expect(t, h26x_sdp_answer_with(&a, &a, others[i], &made) == H26X_OUT_OF_RANGE && made.at == NULL);
         expect(t, h26x_sdp_broken_rule(&a, others[i], &why) == H26X_OUT_OF_RANGE && why.first == 0 && why.second == 0);
+        expect(t, h26x_sdp_agreed(&a, &a, others[i], &sends, &receives) == H26X_OUT_OF_RANGE);
+        expect(t, h26x_sdp_accepts_declared(&a, &a, others[i]) == H26X_OUT_OF_RANGE);
     }
+    expect(t, h26x_sdp_agreed(&a, &b, 0, &sends, &receives) == H26X_SDP_NO_ANSWER);
+    expect(t, sends.level == 9 && receives.level == 9);
+    expect(t, h26x_sdp_accepts_declared(&a, &b, 0) == H26X_SDP_NO_ANSWER);
     expect(t, h26x_sdp_answer_with(&a, &b, 0, &made) == H26X_SDP_NO_ANSWER && made.at == NULL);
     expect(t, h26x_sdp_answer(&a, &b, &made) == H26X_SDP_NO_ANSWER && made.at == NULL);
     h26x_sdp_free(a);
@@ -750,6 +756,7 @@ static void check_ends(struct tally *t)
     h26x_refusal why = {99, 99};
     h26x_constraints said = {.flags = 99};
     h26x_capability_point point = {.max_br = 99};
+    h26x_sdp_stream stream = {.level = 9};
     expect(t, h26x_packetizer_new(H26X_H264, false, &p) == H26X_OK);
     other.at = p.at;
     expect(t, h26x_sdp_codec(&other) == 0);
@@ -768,6 +775,11 @@ static void check_ends(struct tally *t)
     expect(t, len == 99 && value_len == 99 && to[0] == 0xee && value_to[0] == 0xee);
     expect(t, h26x_sdp_broken_rule(&other, 0, NULL) == H26X_WRONG_END);
     expect(t, h26x_sdp_name(&other, 0, to, 8, &len) == H26X_WRONG_END && len == 99 && to[0] == 0xee);
+    expect(t, h26x_sdp_level_unit(&other, 62, 0, to, 8, &len, &why) == H26X_WRONG_END && len == 99 && to[0] == 0xee);
+    expect(t, h26x_sdp_agreed(&other, &it, 0, &stream, NULL) == H26X_WRONG_END && stream.level == 9);
+    expect(t, h26x_sdp_agreed(&it, &other, 0, NULL, &stream) == H26X_WRONG_END && stream.level == 9);
+    expect(t, h26x_sdp_accepts_declared(&other, &it, 0) == H26X_WRONG_END);
+    expect(t, h26x_sdp_accepts_declared(&it, &other, 0) == H26X_WRONG_END);
     expect(t, h26x_sdp_answer_with(&other, &it, 0, &made) == H26X_WRONG_END && made.at == NULL);
     expect(t, h26x_sdp_answer(&other, &it, &made) == H26X_WRONG_END && made.at == NULL);
     expect(t, h26x_sdp_answer(&it, &other, &made) == H26X_WRONG_END && made.at == NULL);
@@ -798,6 +810,8 @@ static void check_nulls(struct tally *t)
         expect(t, h26x_sdp_number(&it, TEXT("sar-understood"), true, NULL) == H26X_OK);
         expect(t, h26x_sdp_broken_rule(&it, 0, NULL) == H26X_OK);
         expect(t, h26x_sdp_name(&it, 0, NULL, many, NULL) == H26X_NO_ROOM);
+        expect(t, h26x_sdp_agreed(&it, &it, 0, NULL, NULL) == H26X_OK);
+        expect(t, h26x_sdp_level_unit(&it, 62, 0, NULL, many, NULL, NULL) == H26X_SDP_ABSENT);
         expect(t, h26x_sdp_units(&it, NULL, many, NULL, NULL) == H26X_SDP_UNKNOWN_NAME);
         expect(t, h26x_sdp_unit(&it, NULL, many, 0, NULL, many, NULL, NULL) == H26X_SDP_UNKNOWN_NAME);
         expect(t, h26x_sdp_other(&it, 0, NULL, many, NULL, NULL, many, NULL) == H26X_SDP_ABSENT);

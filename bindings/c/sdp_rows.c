@@ -1,6 +1,7 @@
 /* The rows of streams/sdp.txt, which says how they are written. */
 #include "calls.h"
 #include <stdio.h>
+#include <stdlib.h>
 #include <string.h>
 
 enum { LONGEST = 2000 };
@@ -129,6 +130,119 @@ static void goes_ways(struct tally *t, char *row)
     h26x_sdp_free(ours);
 }
 
+/* How an end answers, in words. */
+static uint32_t options_of(const char *how)
+{
+    return (strstr(how, "sends") != NULL ? H26X_SDP_SEND_ONLY : 0)
+        | (strstr(how, "receives") != NULL ? H26X_SDP_RECV_ONLY : 0)
+        | (strstr(how, "any-order") != NULL ? H26X_SDP_ANY_ORDER : 0)
+        | (strstr(how, "webrtc") != NULL ? H26X_SDP_WEBRTC : 0)
+        | (strstr(how, "multicast") != NULL ? H26X_SDP_MULTICAST : 0);
+}
+
+/* A stream as a row has it. */
+static void stream_is(struct tally *t, const h26x_sdp_stream *it, const char *wanted)
+{
+    static const char *const words[] = {"in-band", "told", "told-of-level"};
+    char got[64] = "-", mode[24] = "-";
+    if (it->has_mode)
+        snprintf(mode, sizeof mode, "%llu", (unsigned long long)it->mode);
+    if (it->is_there)
+        snprintf(got, sizeof got, "%llu %s %s", (unsigned long long)it->level, mode, words[it->sets]);
+    else
+        expect(t, it->level == 0 && it->mode == 0 && it->sets == 0 && !it->has_mode);
+    expect_at(t, strcmp(got, wanted) == 0, wanted, __FILE__, __LINE__);
+}
+
+/* What is agreed, of our end, and what the other end sees of it. */
+static void agrees(struct tally *t, char *row)
+{
+    const uint32_t codec = codec_of(next_column(&row)), options = options_of(next_column(&row));
+    const h26x_sdp own = format_of(t, codec, next_column(&row)), other = format_of(t, codec, next_column(&row));
+    const char *sends = next_column(&row), *receives = next_column(&row);
+    const uint32_t ways = options & (H26X_SDP_SEND_ONLY | H26X_SDP_RECV_ONLY);
+    const uint32_t others = ways == 0 ? options : options ^ (H26X_SDP_SEND_ONLY | H26X_SDP_RECV_ONLY);
+    h26x_sdp_stream ours[2] = {{9, 9, 9, true, true}, {9, 9, 9, true, true}}, theirs[2];
+    expect_at(t, h26x_sdp_agreed(&own, &other, options, &ours[0], &ours[1]) == H26X_OK, sends, __FILE__, __LINE__);
+    stream_is(t, &ours[0], sends);
+    stream_is(t, &ours[1], receives);
+    expect_at(t, h26x_sdp_agreed(&other, &own, others, &theirs[0], &theirs[1]) == H26X_OK, sends, __FILE__, __LINE__);
+    stream_is(t, &theirs[0], receives);
+    stream_is(t, &theirs[1], sends);
+    h26x_sdp_free(own);
+    h26x_sdp_free(other);
+}
+
+/* Whether ours receives what is declared. */
+static void is_declared(struct tally *t, char *row)
+{
+    const uint32_t codec = codec_of(next_column(&row)), options = options_of(next_column(&row));
+    const h26x_sdp declared = format_of(t, codec, next_column(&row)), ours = format_of(t, codec, next_column(&row));
+    const char *wanted = next_column(&row);
+    const uint32_t code = strcmp(wanted, "yes") == 0 ? H26X_OK : H26X_SDP_NO_ANSWER;
+    expect_at(t, h26x_sdp_accepts_declared(&declared, &ours, options) == code, wanted, __FILE__, __LINE__);
+    h26x_sdp_free(declared);
+    h26x_sdp_free(ours);
+}
+
+/* The code of a fault of sets of levels, and the place that stands behind it. */
+static uint32_t level_fault(const char *wanted, size_t *place)
+{
+    static const struct {
+        const char *words;
+        uint32_t code;
+    } faults[] = {
+        {"! not hexadecimal ", H26X_SDP_NOT_HEXADECIMAL},
+        {"! no sets ", H26X_SDP_NO_LEVEL_SETS},
+        {"! no base64 ", H26X_SDP_NOT_BASE64},
+        {"! empty unit ", H26X_SDP_EMPTY_UNIT},
+        {"! other type ", H26X_SDP_OTHER_TYPE},
+        {"! start code ", H26X_SDP_START_CODE},
+        {"! codec", H26X_NOT_OF_THIS_CODEC},
+    };
+    *place = 0;
+    for (size_t i = 0; i < sizeof faults / sizeof faults[0]; i++)
+        if (strncmp(wanted, faults[i].words, strlen(faults[i].words)) == 0) {
+            if (wanted[strlen(faults[i].words)] != 0)
+                *place = (size_t)(wanted[strlen(faults[i].words)] - '0');
+            return faults[i].code;
+        }
+    return H26X_SDP_ABSENT;
+}
+
+/* The units of a level, each beside that of sprop-parameter-sets that says the same. */
+static void level_has(struct tally *t, char *row)
+{
+    static const char name[] = "sprop-parameter-sets";
+    const uint32_t codec = codec_of(next_column(&row));
+    const h26x_sdp it = format_of(t, codec, next_column(&row));
+    const uint64_t level = strtoull(next_column(&row), NULL, 10);
+    const char *wanted = next_column(&row);
+    char line[LONGEST];
+    uint8_t unit[64], same[64];
+    size_t count = 0, place, len = 99, same_len = 0;
+    h26x_refusal why = {9, 9};
+    const uint32_t code = level_fault(wanted, &place);
+    if (code == H26X_SDP_ABSENT && wanted[0] != '-') {
+        snprintf(line, sizeof line, "%s=%s", name, wanted);
+        const h26x_sdp plain = format_of(t, H26X_H264, line);
+        expect_at(t, h26x_sdp_units(&plain, TEXT(name), &count, NULL) == H26X_OK && count > 0, wanted, __FILE__,
+                  __LINE__);
+        for (size_t i = 0; i < count; i++) {
+            expect(t, h26x_sdp_unit(&plain, TEXT(name), i, same, sizeof same, &same_len, NULL) == H26X_OK);
+            expect_at(t, h26x_sdp_level_unit(&it, level, i, unit, sizeof unit, &len, &why) == H26X_OK, wanted, __FILE__,
+                      __LINE__);
+            expect_at(t, len == same_len && memcmp(unit, same, len) == 0 && why.first == 9, wanted, __FILE__, __LINE__);
+        }
+        h26x_sdp_free(plain);
+    }
+    len = 99;
+    expect_at(t, h26x_sdp_level_unit(&it, level, count, unit, sizeof unit, &len, &why) == code, wanted, __FILE__,
+              __LINE__);
+    expect_at(t, why.first == place && why.second == 0 && len == 99, wanted, __FILE__, __LINE__);
+    h26x_sdp_free(it);
+}
+
 /* A payload type of what goes beside video. */
 static void is_map(struct tally *t, char *row)
 {
@@ -180,6 +294,12 @@ static void walk(struct tally *t, char *row)
         breaks(t, row);
     else if (strcmp(kind, "ways") == 0)
         goes_ways(t, row);
+    else if (strcmp(kind, "agree") == 0)
+        agrees(t, row);
+    else if (strcmp(kind, "declared") == 0)
+        is_declared(t, row);
+    else if (strcmp(kind, "level") == 0)
+        level_has(t, row);
     else if (strcmp(kind, "map") == 0)
         is_map(t, row);
     else if (strcmp(kind, "rtx") == 0)
@@ -201,6 +321,6 @@ void check_sdp_rows(struct tally *t)
         walk(t, row);
         rows++;
     }
-    expect(t, rows > 80);
+    expect(t, rows > 130);
     fclose(file);
 }

@@ -397,7 +397,7 @@ static void sends_all(struct tally *t, h26x_packetizer *p, size_t mtu, const cha
 static void check_every_unit(struct tally *t)
 {
     static const char sets[] = "000001 6742 000001 68ce";
-    h26x_packetizer p = made(t, H26X_H264, false), q;
+    h26x_packetizer p = made(t, H26X_H264, false);
     struct bytes b = bytes_of("00000001 6588 000001 0605 0000 000001 e588");
     h26x_refusal why = {7, 8};
     uint8_t to[64] = {0xee};
@@ -423,8 +423,14 @@ static void check_every_unit(struct tally *t)
     expect(t, h26x_packetize_units(&p, 9, b.at, b.len, &count, &why) == H26X_UNIT_FORBIDDEN && count == 2);
     expect(t, why.first == 2 && why.second == 2 && h26x_packet_count(&p) == 2);
     expect(t, h26x_units_size(&p, 9, b.at, b.len, 0, NULL, NULL, NULL) == H26X_UNIT_FORBIDDEN);
+    h26x_packetizer_free(p);
+}
 
-    /* The packing is copied, and a number that none has changes nothing. */
+/* The packing is copied, and a number that none has changes nothing. */
+static void check_packings(struct tally *t)
+{
+    static const char sets[] = "000001 6742 000001 68ce";
+    h26x_packetizer p = made(t, H26X_H264, false), q;
     expect(t, h26x_packetizer_set_packing(&p, H26X_APART) == H26X_OK);
     expect(t, h26x_packetizer_set_packing(&p, H26X_SINGLE + 1) == H26X_OUT_OF_RANGE);
     expect(t, h26x_packetizer_set_packing(&p, UINT32_MAX) == H26X_OUT_OF_RANGE);
@@ -434,29 +440,41 @@ static void check_every_unit(struct tally *t)
     expect(t, h26x_packetizer_set_packing(&q, H26X_TOGETHER) == H26X_OK);
     sends_all(t, &q, 1500, sets, "78 0002 6742 0002 68ce");
     sends_all(t, &p, 1500, sets, "6742|68ce");
+    h26x_packetizer_free(p);
+    h26x_packetizer_free(q);
+}
 
-    /* Delimiters are left out where that is set, which is copied too; a unit that can't go is told by its place among
-     * all. */
+/* Delimiters are left out where that is set, which is copied too; a unit that can't go is told by its place among all. */
+static void check_delimiters(struct tally *t)
+{
+    h26x_packetizer p, q = made(t, H26X_H264, false);
+    h26x_refusal why = {7, 8};
+    size_t count = 9;
     sends_all(t, &q, 1500, "000001 0910 000001 6588", "78 0002 0910 0002 6588");
     expect(t, h26x_packetizer_set_delimiters(&q, false) == H26X_OK);
     sends_all(t, &q, 1500, "000001 0910 000001 6588 000001 0cff80", "6588");
     sends_all(t, &q, 1500, "0910", "");
-    b = bytes_of("000001 0910 000001 6588 000001 0cff80 000001 e588");
+    struct bytes b = bytes_of("000001 0910 000001 6588 000001 0cff80 000001 e588");
     expect(t, h26x_packetize_units(&q, 1500, b.at, b.len, &count, &why) == H26X_UNIT_FORBIDDEN && count == 0);
     expect(t, why.first == 3 && why.second == 2);
     expect(t, h26x_units_size(&q, 1500, b.at, b.len, 0, NULL, NULL, &why) == H26X_UNIT_FORBIDDEN && why.first == 3);
-    h26x_packetizer_free(p);
     expect(t, h26x_packetizer_clone(&q, &p) == H26X_OK);
     sends_all(t, &p, 1500, "000001 0910 000001 6588", "6588");
     expect(t, h26x_packetizer_set_delimiters(&p, true) == H26X_OK);
     sends_all(t, &p, 1500, "000001 0910 000001 6588", "78 0002 0910 0002 6588");
     h26x_packetizer_free(p);
     h26x_packetizer_free(q);
+}
 
-    /* Each unit takes a number, of calls that are carried out. */
-    p = made(t, H26X_H265, true);
+/* Each unit takes a number, of calls that are carried out. */
+static void check_every_unit_with_numbers(struct tally *t)
+{
+    h26x_refusal why = {7, 8};
+    uint8_t to[64];
+    size_t count = 9, size = 9, ends[2] = {9, 9};
+    h26x_packetizer p = made(t, H26X_H265, true);
     sends_all(t, &p, 100, "000001 4201 000001 4401 000001 0203aa", "6001 0000 0002 4201 00 0002 4401 00 0003 0203aa");
-    b = bytes_of("000001 0203aa 000001 44");
+    struct bytes b = bytes_of("000001 0203aa 000001 44");
     expect(t, h26x_packetize_units(&p, 100, b.at, b.len, NULL, &why) == H26X_UNIT_WITHOUT_HEADER && why.first == 1);
     expect(t, h26x_packetize_units_into(&p, 100, b.at, 6, 0, NULL, 0, NULL, 0, NULL, NULL, NULL) == H26X_NO_ROOM);
     expect(t, h26x_packetize_units_into(&p, 100, b.at, 6, 0, to, 64, ends, 2, &count, &size, NULL) == H26X_OK);
@@ -520,5 +538,8 @@ void check_sending(struct tally *t)
     check_placed(t);
     check_lowest_header(t);
     check_every_unit(t);
+    check_packings(t);
+    check_delimiters(t);
+    check_every_unit_with_numbers(t);
     check_refusals(t);
 }

@@ -2,135 +2,84 @@
 #define _GNU_SOURCE
 #include "resender.h"
 #include "access_units.h"
-#include "ends.h"
+#include "datagrams.h"
+#include "h26x.h"
 #include "losses.h"
-#include "rtcp.h"
+#include <inttypes.h>
 #include <poll.h>
 #include <stdio.h>
 #include <stdlib.h>
 #include <string.h>
 #include <sys/socket.h>
 
-/* Of how many packets one is lost, or comes behind the next one; packets of padding at a time. */
-enum { OF = 10, PADDINGS = 3 };
+/* Of how many packets one is lost, or comes behind the next one; packets without a payload at a time. */
+enum { OF = 10, EMPTY = 3 };
 
-/* Numbers that are asked for at once, and for how many milliseconds the sender waits at once, and at all. */
-enum { ASKED = 512, WAIT = 20, PATIENCE = 10000 };
+/* Numbers that are asked for at once; the room for RTCP; and for how many milliseconds the sender waits at the end: until
+ * nothing was asked for that long. */
+enum { ASKED = 512, RTCP_ROOM = 1200, SILENCE = 1000 };
 
-/* Padding of so many bytes, the last of which says how many (RFC 3550, 5.1). */
-enum { PADDING = 16 };
+/* How many bytes of payloads are held, to go again; ticks of the timestamps' clock. */
+enum { HISTORY = 64 << 20, TICKS_A_FRAME = 90000 / 25 };
 
-/* The SSRC of retransmissions. */
-enum { RTX_SOURCE = 0x6832365a };
+/* SSRCs and first numbers should be random (RFC 3550, 5.1); from here numbers soon pass 65535. */
+static const h26x_rtp_streams streams = {.ssrc = 0x68323658,
+                                         .sequence = 65530,
+                                         .payload_type = MEDIA_TYPE,
+                                         .rtx_ssrc = 0x6832365a,
+                                         .rtx_payload_type = RTX_TYPE,
+                                         .has_rtx = true};
 
-/* All packets of a stream, one behind the other, for the case that they are asked for again. */
-struct history {
+/* What makes and sends the packets, with room for those of a frame, and what became of them; and the one
+ * that goes behind the next, if one does. */
+struct lossy {
+    h26x_packetizer packetizer;
+    h26x_rtp_sender sender;
     uint8_t *at;
     size_t *ends;
-    size_t count, size;
-    uint16_t first;
-};
-
-static void append_packet(struct history *h, const uint8_t *packet, size_t len)
-{
-    h->at = grown(h->at, h->size + len);
-    h->ends = grown(h->ends, (h->count + 1) * sizeof *h->ends);
-    memcpy(h->at + h->size, packet, len);
-    h->size += len;
-    h->ends[h->count++] = h->size;
-}
-
-/* Padding alone, as congestion control sends it: a number, and nothing of the stream. */
-static bool append_padding(struct history *h, struct server *s)
-{
-    static const uint8_t padding[PADDING] = {[PADDING - 1] = PADDING};
-    uint8_t packet[RTP_HEADER + PADDING];
-    size_t len;
-    s->header.marker = false;
-    for (int i = 0; i < PADDINGS; i++) {
-        if (h26x_rtp_write(&s->header, NULL, 0, NULL, 0, NULL, 0, padding, PADDING, packet,
-                           sizeof packet, &len)
-            != H26X_OK)
-            return fail("padding isn't written");
-        append_packet(h, packet, len);
-        s->header.sequence++;
-    }
-    return true;
-}
-
-/* Makes the packets of a stream, with padding behind each tenth frame, and at the end, where a
- * receiver sees by it whether the last packets are missing. */
-static bool make_history(const struct stream *s, struct server *server, struct history *h)
-{
-    size_t begin, end = 0, frames = 0;
-    h->first = server->header.sequence;
-    while (next_access_unit(s->codec, s->at, s->len, end, &begin, &end)) {
-        struct packets made;
-        if (!make_packets(server, s->limit, s->at + begin, end - begin, &made))
-            return false;
-        for (size_t n = 0; n < made.count; n++)
-            append_packet(h, made.at + packet_begin(&made, n),
-                          made.ends[n] - packet_begin(&made, n));
-        if (++frames % 10 == 0 && !append_padding(h, server))
-            return false;
-    }
-    return append_padding(h, server);
-}
-
-/* What sends the packets, and what became of them; and the one that goes behind the next, if one
- * does. */
-struct lossy {
-    const struct history *history;
+    size_t room, ends_room;
+    uint32_t timestamp;
     int socket;
     uint64_t state;
-    size_t lost, again, keyframes_asked, behind;
-    uint16_t rtx_sequence;
-    bool has_behind, is_over;
+    size_t lost, keyframes_asked, behind_len;
+    uint8_t behind[LONGEST_DATAGRAM];
+    bool is_end;
 };
 
-/* Sends a packet again as a retransmission, or loses that. */
-static bool send_again(struct lossy *l, size_t n)
+static bool send_one(const struct lossy *l, const uint8_t *packet, size_t len)
 {
-    const struct packets p = {l->history->at, l->history->ends, l->history->count};
-    const size_t begin = packet_begin(&p, n);
-    uint8_t packet[LONGEST_DATAGRAM];
-    size_t len;
-    l->again++;
-    if (draw_below(&l->state, OF) == 0) {
-        l->lost++;
-        return true;
-    }
-    if (h26x_rtx_write(p.at + begin, p.ends[n] - begin, RTX_TYPE, l->rtx_sequence++, RTX_SOURCE,
-                       packet, sizeof packet, &len)
-        != H26X_OK)
-        return fail("a retransmission isn't written");
     return send(l->socket, packet, len, 0) >= 0 || fail_by_errno("a packet can't be sent");
 }
 
-static bool send_one(struct lossy *l, size_t n)
+/* Sends a packet again as a retransmission, or loses that. */
+static bool send_again(struct lossy *l, uint16_t number)
 {
-    const struct packets p = {l->history->at, l->history->ends, l->history->count};
-    const size_t begin = packet_begin(&p, n);
-    return send(l->socket, p.at + begin, p.ends[n] - begin, 0) >= 0
-        || fail_by_errno("a packet can't be sent");
-}
-
-/* Sends a packet, or loses it, or lets the next one go before it. The last ones go in any case. */
-static bool send_lossy(struct lossy *l, size_t n)
-{
-    const bool is_last = n + PADDINGS >= l->history->count;
-    if (!is_last && draw_below(&l->state, OF) == 0) {
+    uint8_t packet[LONGEST_DATAGRAM];
+    size_t len;
+    if (h26x_rtp_sender_resend(&l->sender, number, packet, sizeof packet, &len) != H26X_OK)
+        return fail("a retransmission isn't written");
+    if (len > 0 && draw_below(&l->state, OF) == 0) {
         l->lost++;
         return true;
     }
-    if (!is_last && !l->has_behind && draw_below(&l->state, OF) == 0) {
-        l->behind = n;
-        l->has_behind = true;
+    return len == 0 || send_one(l, packet, len);
+}
+
+/* Sends a packet, or loses it, or lets the next one go before it. The last ones go in any case. */
+static bool send_lossy(struct lossy *l, const uint8_t *packet, size_t len)
+{
+    if (!l->is_end && draw_below(&l->state, OF) == 0) {
+        l->lost++;
         return true;
     }
-    const bool has_behind = l->has_behind;
-    l->has_behind = false;
-    return send_one(l, n) && (!has_behind || send_one(l, l->behind));
+    if (!l->is_end && l->behind_len == 0 && draw_below(&l->state, OF) == 0) {
+        memcpy(l->behind, packet, len);
+        l->behind_len = len;
+        return true;
+    }
+    const size_t behind_len = l->behind_len;
+    l->behind_len = 0;
+    return send_one(l, packet, len) && (behind_len == 0 || send_one(l, l->behind, behind_len));
 }
 
 /* Does what a packet of RTCP asks for. */
@@ -141,18 +90,12 @@ static bool answer_packet(struct lossy *l, const uint8_t *packet, size_t len)
         l->keyframes_asked++;
         return true;
     }
-    if (rtcp_is_bye(packet, len)) {
-        l->is_over = true;
-        return true;
-    }
     size_t count;
     if (!h26x_nack_read(packet, len, NULL, NULL, numbers, ASKED, &count))
         return true;
-    for (size_t i = 0; i < count && i < ASKED; i++) {
-        const size_t n = (uint16_t)(numbers[i] - l->history->first);
-        if (n < l->history->count && !send_again(l, n))
+    for (size_t i = 0; i < count && i < ASKED; i++)
+        if (!send_again(l, numbers[i]))
             return false;
-    }
     return true;
 }
 
@@ -166,7 +109,7 @@ static bool answer_datagram(struct lossy *l, const uint8_t *at, size_t len)
     return true;
 }
 
-/* Does what comes within so many milliseconds asks for. */
+/* Does what is asked for, until for so many milliseconds nothing is. */
 static bool answer_for(struct lossy *l, int milliseconds)
 {
     uint8_t packet[RTCP_ROOM];
@@ -175,35 +118,93 @@ static bool answer_for(struct lossy *l, int milliseconds)
         const ssize_t len = recv(l->socket, packet, sizeof packet, MSG_DONTWAIT);
         if (len > 0 && !answer_datagram(l, packet, (size_t)len))
             return false;
-        milliseconds = 0;
     }
     return true;
 }
 
-/* Sends all, and then what it is asked for. */
-static bool send_all(const struct history *h, int socket)
+/* Sends packets that lie in the buffer, each behind room for its header. */
+static bool send_packets_lossy(struct lossy *l, size_t count, size_t size)
 {
-    struct lossy l = {.history = h, .socket = socket, .state = 1};
-    for (size_t n = 0; n < h->count; n++)
-        if (!send_lossy(&l, n) || !answer_for(&l, 1))
+    size_t begin = 0;
+    if (h26x_rtp_sender_send(&l->sender, l->timestamp, 0, NULL, 0, RTP_HEADER, l->at, size, l->ends,
+                             count, NULL)
+        != H26X_OK)
+        return fail("headers aren't written");
+    for (size_t n = 0; n < count; begin = l->ends[n++])
+        if (!send_lossy(l, l->at + begin, l->ends[n] - begin) || !answer_for(l, 1))
             return false;
-    for (int waited = 0; !l.is_over && waited < PATIENCE; waited += WAIT)
-        if (!answer_for(&l, WAIT))
+    return true;
+}
+
+static void grow(struct lossy *l, size_t count, size_t size)
+{
+    l->at = grown(l->at, size);
+    l->ends = grown(l->ends, count * sizeof *l->ends);
+    l->room = size;
+    l->ends_room = count;
+}
+
+/* Sends a frame. Where the buffer has no room for its packets it grows, and the call is made again. */
+static bool send_frame(struct lossy *l, size_t limit, const uint8_t *frame, size_t len)
+{
+    size_t count, size;
+    uint32_t code;
+    while ((code = h26x_packetize_units_into(&l->packetizer, limit, frame, len, RTP_HEADER, l->at,
+                                             l->room, l->ends, l->ends_room, &count, &size, NULL))
+           == H26X_NO_ROOM)
+        grow(l, count > l->ends_room ? count : l->ends_room, size > l->room ? size : l->room);
+    if (code != H26X_OK)
+        return fail(h26x_strerror(code));
+    l->timestamp += TICKS_A_FRAME;
+    return send_packets_lossy(l, count, size);
+}
+
+/* Headers alone, as congestion control sends padding: numbers, and nothing of the stream. */
+static bool send_empty(struct lossy *l)
+{
+    if (l->room < EMPTY * RTP_HEADER || l->ends_room < EMPTY)
+        grow(l, EMPTY, EMPTY * RTP_HEADER);
+    for (size_t n = 0; n < EMPTY; n++)
+        l->ends[n] = (n + 1) * RTP_HEADER;
+    return send_packets_lossy(l, EMPTY, EMPTY * RTP_HEADER);
+}
+
+/* Sends all, with packets that bear nothing behind each tenth frame, and at the end, where a receiver sees
+ * by them whether the last packets are missing; and then what it is asked for. */
+static bool send_all(struct lossy *l, const struct stream *s)
+{
+    size_t begin, end = 0, frames = 0;
+    while (next_access_unit(s->codec, s->at, s->len, end, &begin, &end))
+        if (!send_frame(l, s->limit, s->at + begin, end - begin)
+            || (++frames % 10 == 0 && !send_empty(l)))
             return false;
-    printf("%zu packets sent, %zu losses, %zu sent again; a keyframe was asked for %zu times\n",
-           h->count, l.lost, l.again, l.keyframes_asked);
-    return l.is_over || fail("the receiver doesn't go");
+    l->is_end = true;
+    if (!send_empty(l))
+        return false;
+    return answer_for(l, SILENCE);
+}
+
+static bool tell(const struct lossy *l)
+{
+    h26x_rtp_sent sent;
+    if (h26x_rtp_sender_count(&l->sender, &sent) != H26X_OK)
+        return fail("no counts");
+    printf("%" PRIu64 " packets sent, %zu losses, %" PRIu64
+           " sent again; a keyframe was asked for %zu times\n",
+           sent.packets, l->lost, sent.rtx_packets, l->keyframes_asked);
+    return true;
 }
 
 bool send_stream(const struct stream *s, int socket)
 {
-    struct server server;
-    struct client unused;
-    struct history history = {0};
-    const bool is_sent = make_ends(s->codec, &server, &unused) && make_history(s, &server, &history)
-        && send_all(&history, socket);
-    free_ends(&server, &unused);
-    free(history.at);
-    free(history.ends);
+    static struct lossy l;
+    l = (struct lossy){.socket = socket, .state = 1};
+    const bool is_sent = h26x_packetizer_new(s->codec, false, &l.packetizer) == H26X_OK
+        && h26x_rtp_sender_new(&streams, HISTORY, &l.sender) == H26X_OK && send_all(&l, s)
+        && tell(&l);
+    h26x_packetizer_free(l.packetizer);
+    h26x_rtp_sender_free(l.sender);
+    free(l.at);
+    free(l.ends);
     return is_sent;
 }

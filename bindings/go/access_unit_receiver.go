@@ -181,6 +181,7 @@ type receivingUnits struct {
 	behind C.uint16_t
 	taken  C.size_t
 	unit   C.h26x_access_unit
+	soFar  C.h26x_so_far
 }
 
 // NewAccessUnitReceiver makes a receiver that takes any sequence number as the first. Its errors are ErrUnknownCodec,
@@ -357,6 +358,51 @@ func unitOf(told *C.h26x_access_unit, bytes []byte) AccessUnit {
 		Last:         uint16(told.last),
 		Missing:      uint32(told.missing),
 	}
+}
+
+// UnitsSoFar is what came of an access unit that is open.
+type UnitsSoFar struct {
+	// Timestamp is that of its packets.
+	Timestamp uint32
+	// Bytes is the NAL units that came whole, from the byte on that was asked for, in order.
+	Bytes []byte
+	// Extra is what is told of the units.
+	Extra CodecExtra
+}
+
+// UnitsSoFar is the NAL units that came whole so far of the access unit that is open, from a byte on: for who decodes each
+// as soon as it is complete. Later packets put units behind these, until Next gives all of it, with what is told of the
+// whole. Nothing is open, and nil is answered, where Next hasn't given out what ended before. A text of more than UnitLimit
+// bytes is given up. A byte below 0 is taken for 0. Its error is ErrClosed.
+func (r *AccessUnitReceiver) UnitsSoFar(from int) (*UnitsSoFar, error) {
+	r.mu.Lock()
+	defer r.mu.Unlock()
+	call := r.call
+	if call == nil {
+		return nil, ErrClosed
+	}
+	return unitsSoFar(&call.soFar, func(room []byte) C.bool {
+		return C.h26x_access_units_so_far(&call.handle, C.size_t(larger(from, 0)), at(room), C.size_t(len(room)),
+			&call.soFar)
+	})
+}
+
+// unitsSoFar is what is shown by a call that writes its bytes and tells the rest.
+func unitsSoFar(told *C.h26x_so_far, show func(room []byte) C.bool) (*UnitsSoFar, error) {
+	if !bool(show(nil)) {
+		return nil, nil
+	}
+	size, err := length(told.len)
+	if err != nil {
+		return nil, err
+	}
+	bytes := make([]byte, size)
+	show(bytes)
+	return &UnitsSoFar{
+		Timestamp: uint32(told.timestamp),
+		Bytes:     bytes,
+		Extra:     CodecExtra(told.extra),
+	}, nil
 }
 
 // Deadline is the tick at which to call Next at the latest, if packets wait and there is a MaxWait, or for the packet that

@@ -174,6 +174,46 @@ func TestPacketsMissingLateAndTwice(t *testing.T) {
 	}
 }
 
+// shows compares what came so far of the access unit that is open, from a byte on.
+func shows(t *testing.T, r *h26x.AccessUnitReceiver, from int, wanted *h26x.UnitsSoFar) {
+	t.Helper()
+	got, err := r.UnitsSoFar(from)
+	done(t, err)
+	if fmt.Sprintf("%+v", got) != fmt.Sprintf("%+v", wanted) {
+		t.Fatalf("got %+v, wanted %+v", got, wanted)
+	}
+}
+
+// A unit is shown with its last fragment, and once its access unit has ended that is given out first.
+func TestUnitsBeforeTheirAccessUnitHasEnded(t *testing.T) {
+	for _, codec := range codecs {
+		r, f := newAccessUnitReceiver(t, codec, h26x.AccessUnitConfig{}), fragmentsOf(codec)
+		shows(t, r, 0, nil)
+		for i, fragment := range [][]byte{f.start, f.middle} {
+			pushes(t, r, 0, uint16(7+i), 3000, false, fragment, h26x.Held)
+			gives(t, r, 0)
+			shows(t, r, 0, &h26x.UnitsSoFar{Timestamp: 3000, Bytes: []byte{}})
+		}
+		pushes(t, r, 0, 9, 3000, false, f.end, h26x.Held)
+		text := annexB(f.unit)
+		shows(t, r, -1, &h26x.UnitsSoFar{Timestamp: 3000, Bytes: text, Extra: h26x.Keyframe})
+		shows(t, r, 10, &h26x.UnitsSoFar{Timestamp: 3000, Bytes: text[10:], Extra: h26x.Keyframe})
+		shows(t, r, 99, &h26x.UnitsSoFar{Timestamp: 3000, Bytes: []byte{}, Extra: h26x.Keyframe})
+		pushes(t, r, 0, 10, 3000, true, later(codec), h26x.Held)
+		shows(t, r, 0, nil)
+		unit, err := r.Next(0)
+		done(t, err)
+		if unit == nil || !bytes.Equal(unit.Bytes, append(annexB(f.unit), annexB(later(codec))...)) {
+			t.Fatalf("got %+v", unit)
+		}
+		shows(t, r, 0, nil)
+		done(t, r.Close())
+		if _, err := r.UnitsSoFar(0); !errors.Is(err, h26x.ErrClosed) {
+			t.Fatal(err)
+		}
+	}
+}
+
 // Settings that change while a packet waits: with a window of 1 it is due.
 func TestSettingsThatChange(t *testing.T) {
 	for _, codec := range codecs {

@@ -299,7 +299,18 @@ func unitsThroughLosses(t *testing.T, codec h26x.Codec, config h26x.AccessUnitCo
 	}
 	done(t, r.Finish())
 	take()
-	wanted, wholes := left(codec, all, came, numberOf), uint64(0)
+	wanted := left(codec, all, came, numberOf)
+	wholes := checkUnits(t, codec, got, wanted)
+	checkCounts(t, r, h26x.Counts{
+		Taken: uint64(len(came)), Lost: uint64(highest - lowest + 1 - len(came)), Units: uint64(len(wanted)), Whole: wholes,
+		Unbelieved: unbelieved(codec, all, came),
+	}, len(coming)-len(came))
+	return got
+}
+
+// Compares access units, and counts those that are whole.
+func checkUnits(t *testing.T, codec h26x.Codec, got, wanted []h26x.AccessUnit) (wholes uint64) {
+	t.Helper()
 	for i, unit := range wanted {
 		if i >= len(got) || told(got[i]) != told(unit) {
 			t.Fatalf("%v, access unit %d of %d, got %d: it is another one", codec, i, len(wanted), len(got))
@@ -311,23 +322,29 @@ func unitsThroughLosses(t *testing.T, codec h26x.Codec, config h26x.AccessUnitCo
 	if len(got) > len(wanted) {
 		t.Fatalf("%d access units more", len(got)-len(wanted))
 	}
-	counted, err := r.Counts()
-	done(t, err)
-	if counted.Late+counted.Twice != uint64(len(coming)-len(came)) {
-		t.Fatalf("%d late and %d twice, of %d that came again", counted.Late, counted.Twice, len(coming)-len(came))
-	}
-	counted.Late, counted.Twice = 0, 0
-	unbelieved := uint64(0)
+	return wholes
+}
+
+// How many markers aren't believed: those of packets that came, of access units of which no slice did.
+func unbelieved(codec h26x.Codec, all []sentUnit, came map[int]bool) (count uint64) {
 	for _, one := range all {
 		if came[one.last] && !bearsSlice(codec, one, came) {
-			unbelieved++
+			count++
 		}
 	}
-	if counted != (h26x.Counts{
-		Taken: uint64(len(came)), Lost: uint64(highest - lowest + 1 - len(came)), Units: uint64(len(wanted)), Whole: wholes,
-		Unbelieved: unbelieved,
-	}) {
+	return count
+}
+
+// What is counted, where so many packets came again.
+func checkCounts(t *testing.T, r *h26x.AccessUnitReceiver, wanted h26x.Counts, again int) {
+	t.Helper()
+	counted, err := r.Counts()
+	done(t, err)
+	if counted.Late+counted.Twice != uint64(again) {
+		t.Fatalf("%d late and %d twice, of %d that came again", counted.Late, counted.Twice, again)
+	}
+	counted.Late, counted.Twice = 0, 0
+	if counted != wanted {
 		t.Fatalf("got %+v", counted)
 	}
-	return got
 }

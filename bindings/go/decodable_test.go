@@ -122,7 +122,14 @@ func TestAReorderedBeginning(t *testing.T) {
 				gives(t, r, 50, missing(one(codec, 9000, last+2, k.slice), 1))
 			}
 		}
-		// No wait at the beginning: those before are late.
+	}
+}
+
+// Without a wait at the beginning those before are late, and the window has packets due whatever the wait.
+func TestABeginningWithoutAWait(t *testing.T) {
+	for _, codec := range codecs {
+		k := kindsOf(codec)
+		last := uint16(10 + len(k.sets))
 		for _, config := range []h26x.AccessUnitConfig{{MaxWait: 200}, {BeginWait: -1, MaxWait: 200}, {BeginWait: 200, MaxWait: -1}} {
 			r := newAccessUnitReceiver(t, codec, config)
 			pushes(t, r, 9, last, 3000, true, k.key, h26x.Held)
@@ -130,7 +137,6 @@ func TestAReorderedBeginning(t *testing.T) {
 			gives(t, r, 9, one(codec, 3000, last, k.key))
 			pushes(t, r, 9, 10, 3000, false, k.sets[0], h26x.PushedLate, last-9)
 		}
-		// And the window has them due too.
 		r := newAccessUnitReceiver(t, codec, h26x.AccessUnitConfig{Window: 4, BeginWait: 50})
 		for n := uint16(1); n < 4; n++ {
 			pushes(t, r, 0, n, uint32(n), true, k.slice, h26x.Held)
@@ -227,8 +233,13 @@ func TestParameterSetsOfAKeyframe(t *testing.T) {
 		hurt := missing(several(codec, 3000, n, k.slice, k.slice), 1)
 		hurt.Last = n + 2
 		gives(t, r, 0, hurt, whole(one(codec, 6000, n+3, k.key)))
-		// A decoder that has them needs none.
-		r = newAccessUnitReceiver(t, codec, h26x.AccessUnitConfig{HasSets: true})
+	})
+}
+
+// A decoder that has parameter sets needs none.
+func TestParameterSetsThatADecoderHas(t *testing.T) {
+	eachKind(t, func(t *testing.T, codec h26x.Codec, k kinds, _ *h26x.AccessUnitReceiver) {
+		r := newAccessUnitReceiver(t, codec, h26x.AccessUnitConfig{HasSets: true})
 		comes(t, r, 0, 10, 0, k.slice)
 		comes(t, r, 0, 11, 3000, k.key)
 		comes(t, r, 0, 13, 6000, k.slice)

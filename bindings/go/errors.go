@@ -45,7 +45,7 @@ const (
 	// ErrNotOfThisCodec: H.264 has no decoding order numbers, no largest packet size, and shows no
 	// packets; H.266 shows none.
 	ErrNotOfThisCodec Code = C.H26X_NOT_OF_THIS_CODEC
-	// ErrOutOfRange: a largest packet size is under 4, or a window is negative or over 16384.
+	// ErrOutOfRange: a largest packet size is under 4, a window is negative or over 16384, or an option of SDP is none.
 	ErrOutOfRange Code = C.H26X_OUT_OF_RANGE
 	// ErrNoRoom: a header doesn't fit before a payload, or a NACK of one number where it may go. First is how many bytes
 	// it has.
@@ -161,8 +161,19 @@ const (
 	ErrREDBlocksPastTheEnd Code = C.H26X_RED_BLOCKS_PAST_THE_END
 )
 
+// Of the elements of a header extension (RFC 8285, 4.2 and 4.3).
+const (
+	// ErrRTPNoElement: none is left. No call here answers it.
+	ErrRTPNoElement Code = C.H26X_RTP_NO_ELEMENT
+	// ErrRTPElementPastTheEnd: its length passes the end of the extension, or isn't there.
+	ErrRTPElementPastTheEnd Code = C.H26X_RTP_ELEMENT_PAST_THE_END
+)
+
 // ErrSDPNoAPT: a format of retransmission says no payload type that it belongs to.
 const ErrSDPNoAPT Code = C.H26X_SDP_NO_APT
+
+// ErrSDPNoLevelSets: a level of sprop-level-parameter-sets has no sets.
+const ErrSDPNoLevelSets Code = C.H26X_SDP_NO_LEVEL_SETS
 
 // Which rule a format of one's own breaks (RFC 6184, 8.1; RFC 7798, 7.1; RFC 9328, 7.2).
 const (

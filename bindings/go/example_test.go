@@ -63,6 +63,31 @@ func ExamplePacketizer_PacketizeInto() {
 	// 17 bytes, 7c45040506
 }
 
+// An access unit is sent, and a packet of it again, as a NACK asks for it.
+func ExampleRTPSender() {
+	sender, err := h26x.NewRTPSender(h26x.RTPStreams{
+		SSRC: 1, PayloadType: 96, Sequence: 65535, HasRTX: true, RTXSSRC: 2, RTXPayloadType: 97, RTXSequence: 500,
+	}, 1_000_000)
+	if err != nil {
+		panic(err)
+	}
+	defer sender.Close()
+	datagrams, err := sender.Send(90_000, [][]byte{{0x67, 0x42}, {0x65, 0x88}}) // of a Packetizer
+	if err != nil {
+		panic(err)
+	}
+	fmt.Printf("%x\n%x\n", datagrams[0], datagrams[1])
+	nack, _ := h26x.ReadNACK([]byte{0x81, 205, 0, 3, 0, 0, 0, 9, 0, 0, 0, 1, 0xff, 0xff, 0, 0})
+	for _, number := range nack.Numbers {
+		again, err := sender.Resend(number)
+		fmt.Printf("%d: %x, %v\n", number, again, err)
+	}
+	// Output:
+	// 8060ffff00015f90000000016742
+	// 80e0000000015f90000000016588
+	// 65535: 806101f400015f9000000002ffff6742, <nil>
+}
+
 // The last fragment of a unit that is not the last of its access unit.
 func ExampleDepacketizer_IsPartitionTail() {
 	depacketizer, err := h26x.NewDepacketizer(h26x.H265)
@@ -145,26 +170,27 @@ func ExampleAccessUnitReceiver_recorder() {
 	// some lost: true true
 }
 
+func must(err error) {
+	if err != nil {
+		panic(err)
+	}
+}
+
 // sendAndRecord sends a stream of which a packet of so many is lost, none where it is 0, and each second one comes behind
 // the next, and counts the pictures that are recorded and how often a keyframe is asked for.
 func sendAndRecord(stream []byte, each int) (pictures, asked int) {
 	packetizer, err := h26x.NewPacketizer(h26x.H264)
-	if err != nil {
-		panic(err)
-	}
+	must(err)
 	defer packetizer.Close()
 	receiver, err := h26x.NewAccessUnitReceiver(h26x.H264, h26x.AccessUnitConfig{Window: 16})
-	if err != nil {
-		panic(err)
-	}
+	must(err)
 	defer receiver.Close()
 	unit, asks := h26x.AccessUnit{}, false
 	record := func() {
 		for {
 			ended, err := receiver.NextInto(0, &unit)
-			if err != nil {
-				panic(err)
-			} else if !ended {
+			must(err)
+			if !ended {
 				return
 			}
 			if unit.IsClean {
@@ -193,9 +219,8 @@ func sendAndRecord(stream []byte, each int) (pictures, asked int) {
 				continue
 			}
 			for _, one := range []h26x.RTPPacket{packet, behind} {
-				if _, _, err := receiver.Push(0, one); err != nil {
-					panic(err)
-				}
+				_, _, err := receiver.Push(0, one)
+				must(err)
 			}
 			behind = h26x.RTPPacket{}
 			record()
@@ -203,13 +228,10 @@ func sendAndRecord(stream []byte, each int) (pictures, asked int) {
 		timestamp, accessUnit = timestamp+3000, nil
 	}
 	if behind.Payload != nil {
-		if _, _, err := receiver.Push(0, behind); err != nil {
-			panic(err)
-		}
+		_, _, err := receiver.Push(0, behind)
+		must(err)
 	}
-	if err := receiver.Finish(); err != nil {
-		panic(err)
-	}
+	must(receiver.Finish())
 	record()
 	return pictures, asked
 }

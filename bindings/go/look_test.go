@@ -256,8 +256,8 @@ func TestProfiles(t *testing.T) {
 	}
 }
 
-// RFC 6184, 8.1 with table 5; RFC 7798, 7.1; RFC 9328, 7.2.
-func TestProfilesOfParameters(t *testing.T) {
+// RFC 6184, 8.1 with table 5.
+func TestH264ProfilesOfParameters(t *testing.T) {
 	for id, wanted := range map[string]h26x.H264ProfileLevel{
 		"42e01f": {h26x.H264ProfileConstrainedBaseline, h26x.H264Level3_1},
 		"640C1F": {h26x.H264ProfileConstrainedHigh, h26x.H264Level3_1},
@@ -276,6 +276,10 @@ func TestProfilesOfParameters(t *testing.T) {
 	if _, ok := h26x.H264ProfileLevelFromFmtp(nil); ok {
 		t.Error("a profile of no parameters")
 	}
+}
+
+// RFC 7798, 7.1; RFC 9328, 7.2.
+func TestProfilesOfParameters(t *testing.T) {
 	main265 := h26x.H265ProfileTierLevel{Profile: h26x.H265ProfileMain, Tier: h26x.H265TierMain, Level: h26x.H265Level3_1}
 	high265 := h26x.H265ProfileTierLevel{Profile: h26x.H265ProfileMain10, Tier: h26x.H265TierHigh, Level: h26x.H265Level6_2}
 	main266 := h26x.H266ProfileTierLevel{Profile: h26x.H266ProfileMain10, Tier: h26x.H266TierMain, Level: h26x.H266Level3_1}
@@ -323,6 +327,14 @@ func TestProfilesOfParameters(t *testing.T) {
 				t.Errorf("one without %s", name)
 			}
 		}
+	}
+}
+
+// The same of numbers.
+func TestProfilesOfNumbers(t *testing.T) {
+	high265 := h26x.H265ProfileTierLevel{Profile: h26x.H265ProfileMain10, Tier: h26x.H265TierHigh, Level: h26x.H265Level6_2}
+	high266 := h26x.H266ProfileTierLevel{
+		Profile: h26x.H266ProfileMain10_444, Tier: h26x.H266TierHigh, Level: h26x.H266Level15_5,
 	}
 	if got, ok := h26x.NewH265ProfileTierLevel(2, 1, 186); !ok || got != high265 {
 		t.Errorf("got %+v", got)

@@ -79,6 +79,22 @@ func (p *Packets) copies() [][]byte {
 	return copies
 }
 
+// put puts payloads that lie elsewhere in the place of the packets.
+func (p *Packets) put(payloads [][]byte) {
+	size := 0
+	for _, payload := range payloads {
+		size += p.headroom + len(payload)
+	}
+	p.grow(len(payloads), size)
+	end := 0
+	for i, payload := range payloads {
+		begin := end + p.headroom
+		end = begin + copy(p.bytes[begin:], payload)
+		p.ends[i] = C.size_t(end)
+	}
+	p.count = len(payloads)
+}
+
 // grow makes room for so many packets, of so many bytes with what is before them. Those that stand here
 // stay.
 func (p *Packets) grow(count, size int) {

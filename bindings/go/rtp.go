@@ -112,6 +112,36 @@ func (d RTPDatagram) Append(dst []byte) ([]byte, error) {
 	})
 }
 
+// An RTPElement is an element of a header extension (RFC 8285, 4.1).
+type RTPElement struct {
+	// ID is its local identifier, whose meaning an a=extmap line of SDP says (RFC 8285, 5).
+	ID uint8
+	// Bytes are a part of the extension; nil where there are none.
+	Bytes []byte
+}
+
+// Elements are the elements of the header extension, in their order (RFC 8285, 4.2 and 4.3): by Profile those with a
+// header of one byte, which end before an ID of 15, or of 0 with a length, or of two; of another Profile there are none.
+// Where one passes the end the error is ErrRTPElementPastTheEnd, with those before it.
+func (h RTPHeader) Elements() ([]RTPElement, error) {
+	var elements []RTPElement
+	if !h.HasExtension {
+		return nil, nil
+	}
+	it, from, extension := new(C.h26x_rtp_element), C.size_t(0), h.Extension
+	for {
+		code := C.h26x_rtp_element_next(C.uint16_t(h.Profile), at(extension), C.size_t(len(extension)), from, it)
+		if code == C.H26X_RTP_NO_ELEMENT {
+			return elements, nil
+		}
+		if err := refusedBy(code); err != nil {
+			return elements, err
+		}
+		elements = append(elements, RTPElement{uint8(it.id), piece(extension, int(it.begin), it.len)})
+		from = it.begin + it.len
+	}
+}
+
 // WriteBefore writes the header into a buffer so that it ends at a place, where a payload begins: the headroom of a
 // packet of [Packets]. padded is P: whether the packet ends in padding. It answers where the header begins. Its errors
 // are ErrRTPPayloadType, ErrRTPCSRCs, ErrRTPExtension, and ErrNoRoom where it has more bytes than stand before the
@@ -146,6 +176,35 @@ func REDPrimary(payload []byte) (payloadType uint8, primary []byte, err error) {
 		return 0, nil, err
 	}
 	return uint8(*told), payload[*place:], nil
+}
+
+// A REDBlock is a block before the primary one of a redundant payload (RFC 2198, 3).
+type REDBlock struct {
+	// PayloadType is that of FEC where it bears no payload of the stream (RFC 5109, 14.2).
+	PayloadType uint8
+	// TimestampOffset is how much earlier than the packet's its timestamp is, below 16384.
+	TimestampOffset uint16
+	// Bytes are a part of the payload, at most 1023; nil where there are none.
+	Bytes []byte
+}
+
+// REDBlocks are the blocks before the primary one of a redundant payload, in their order (RED; RFC 2198, 3). Its errors are
+// those of REDPrimary.
+func REDBlocks(payload []byte) ([]REDBlock, error) {
+	count := new(C.size_t)
+	if err := refusedBy(C.h26x_red_blocks(at(payload), C.size_t(len(payload)), nil, 0, count)); err != nil || *count == 0 {
+		return nil, err
+	}
+	told := make([]C.h26x_red_block, *count)
+	if err := refusedBy(C.h26x_red_blocks(at(payload), C.size_t(len(payload)), &told[0], *count, count)); err != nil {
+		return nil, err
+	}
+	blocks := make([]REDBlock, len(told))
+	for i := range told {
+		it := &told[i]
+		blocks[i] = REDBlock{uint8(it.payload_type), uint16(it.timestamp_offset), piece(payload, int(it.begin), it.len)}
+	}
+	return blocks, nil
 }
 
 // appended is dst with what a call writes behind it, at most so many bytes.

@@ -134,6 +134,7 @@ type receivingDatagrams struct {
 	handle C.h26x_rtp_receiver
 	told   C.h26x_rtp_told
 	unit   C.h26x_access_unit
+	soFar  C.h26x_so_far
 }
 
 // NewRTPReceiver makes a receiver that follows the SSRC of the first packet of the codec or of RED. Its errors are those
@@ -265,6 +266,21 @@ func (r *RTPReceiver) NextInto(now uint32, unit *AccessUnit) (bool, error) {
 	}
 	return nextUnit(unit, &call.unit, func(room []byte) C.uint32_t {
 		return C.h26x_rtp_receiver_next(&call.handle, C.uint32_t(now), at(room), C.size_t(len(room)), &call.unit)
+	})
+}
+
+// UnitsSoFar is the NAL units that came whole so far of the access unit that is open, from a byte on, as that of an
+// AccessUnitReceiver.
+func (r *RTPReceiver) UnitsSoFar(from int) (*UnitsSoFar, error) {
+	r.mu.Lock()
+	defer r.mu.Unlock()
+	call := r.call
+	if call == nil {
+		return nil, ErrClosed
+	}
+	return unitsSoFar(&call.soFar, func(room []byte) C.bool {
+		return C.h26x_rtp_receiver_so_far(&call.handle, C.size_t(larger(from, 0)), at(room), C.size_t(len(room)),
+			&call.soFar)
 	})
 }
 

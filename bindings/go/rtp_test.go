@@ -2,6 +2,7 @@ package h26x_test
 
 import (
 	"bytes"
+	"errors"
 	"reflect"
 	"testing"
 
@@ -176,6 +177,58 @@ func TestRedundantPayloads(t *testing.T) {
 		_, primary, err := h26x.REDPrimary(some(digits))
 		refuses(t, err, code)
 		same(t, primary, nil)
+	}
+}
+
+func TestRedundantBlocks(t *testing.T) {
+	for digits, wanted := range map[string][]h26x.REDBlock{
+		"60 65":                nil,
+		"87028002 05 aabb cc":  {{PayloadType: 7, TimestampOffset: 160, Bytes: []byte{0xaa, 0xbb}}},
+		"80000000 fffffc00 00": {{}, {PayloadType: 127, TimestampOffset: 16383}},
+		"87028002 ff000001 7f aabb dd": {
+			{PayloadType: 7, TimestampOffset: 160, Bytes: []byte{0xaa, 0xbb}}, {PayloadType: 127, Bytes: []byte{0xdd}}},
+	} {
+		blocks, err := h26x.REDBlocks(some(digits))
+		if err != nil || !reflect.DeepEqual(blocks, wanted) {
+			t.Error(digits, blocks, err)
+		}
+	}
+	for digits, wanted := range map[string]error{"": h26x.ErrREDHeadersPastTheEnd, "87028002 05 aa": h26x.ErrREDBlocksPastTheEnd} {
+		if blocks, err := h26x.REDBlocks(some(digits)); blocks != nil || !errors.Is(err, wanted) {
+			t.Error(digits, blocks, err)
+		}
+	}
+}
+
+// Elements by RFC 8285, 4.2 and 4.3.
+func TestElements(t *testing.T) {
+	one := h26x.RTPElement{ID: 1, Bytes: []byte{0xaa}}
+	for _, row := range []struct {
+		profile uint16
+		digits  string
+		wanted  []h26x.RTPElement
+		err     error
+	}{
+		{0xbede, "10aa 21bbcc 0000 33d0d1d2d3",
+			[]h26x.RTPElement{one, {ID: 2, Bytes: []byte{0xbb, 0xcc}}, {ID: 3, Bytes: []byte{0xd0, 0xd1, 0xd2, 0xd3}}}, nil},
+		{0x1000, "0100 0201bb 00", []h26x.RTPElement{{ID: 1}, {ID: 2, Bytes: []byte{0xbb}}}, nil},
+		{0x100f, "0f01aa ff00", []h26x.RTPElement{{ID: 15, Bytes: []byte{0xaa}}, {ID: 255}}, nil},
+		{0xbede, "", nil, nil},
+		{0xbede, "10aa f000 20bb", []h26x.RTPElement{one}, nil},
+		{0xbede, "10aa 01aabb 10cc", []h26x.RTPElement{one}, nil},
+		{0x1010, "10aa", nil, nil},
+		{0xbede, "10aa 11aa", []h26x.RTPElement{one}, h26x.ErrRTPElementPastTheEnd},
+		{0x1000, "11", nil, h26x.ErrRTPElementPastTheEnd},
+	} {
+		header := h26x.RTPHeader{HasExtension: true, Profile: row.profile, Extension: some(row.digits)}
+		elements, err := header.Elements()
+		if !errors.Is(err, row.err) || !reflect.DeepEqual(elements, row.wanted) {
+			t.Error(row.digits, elements, err)
+		}
+		header.HasExtension = false
+		if elements, err := header.Elements(); elements != nil || err != nil {
+			t.Error(row.digits, elements, err)
+		}
 	}
 }
 

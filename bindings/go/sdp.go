@@ -5,8 +5,10 @@ import "C"
 
 import (
 	"encoding/hex"
+	"errors"
 	"fmt"
 	"runtime"
+	"strconv"
 	"strings"
 	"sync"
 )
@@ -177,6 +179,81 @@ func (f *FormatParameters) BrokenRule(options AnswerOptions) error {
 	return rule
 }
 
+// An AgreedSets says where the parameter sets of a stream are (RFC 6184, 8.1).
+type AgreedSets uint32
+
+// Where they are.
+const (
+	// SetsInBand: in the stream: who sends it sends them with its units.
+	SetsInBand AgreedSets = C.H26X_SDP_SETS_IN_BAND
+	// SetsTold: in the sender's format: Units has them of sprop-parameter-sets, or sprop-vps, sprop-sps and sprop-pps.
+	SetsTold AgreedSets = C.H26X_SDP_SETS_TOLD
+	// SetsToldOfLevel: in its sprop-level-parameter-sets: SetsOfLevel has them, of the stream's level.
+	SetsToldOfLevel AgreedSets = C.H26X_SDP_SETS_TOLD_OF_LEVEL
+)
+
+// String is its name.
+func (p AgreedSets) String() string {
+	names := [...]string{"SetsInBand", "SetsTold", "SetsToldOfLevel"}
+	if uint64(p) < uint64(len(names)) {
+		return names[p]
+	}
+	return "AgreedSets(" + strconv.FormatUint(uint64(p), 10) + ")"
+}
+
+// An AgreedStream is a stream from one end to the other.
+type AgreedStream struct {
+	// Level is the highest of it: of H.264 twice level_idc, 21 for level 1b; else as level-id says it.
+	Level uint64
+	// Mode is packetization-mode of H.264; else 0.
+	Mode uint64
+	// Sets is where its parameter sets are.
+	Sets AgreedSets
+}
+
+// Agreed is what an offered format and its answer agree on, of the end that wrote f, whichever of the two that is: the
+// stream that it sends, and the one that it receives; nil where there is none, by its direction (SendOnly, RecvOnly among
+// the options, which are those of AnswerWith) or since the formats say no level. A receiver starts with the sets of other,
+// where these are told: give them to the decoder, and say HasSets.
+//
+// Its errors are ErrOutOfRange of a bit that no option has, ErrSDPNoAnswer of two codecs, and ErrClosed.
+func (f *FormatParameters) Agreed(other *FormatParameters, options AnswerOptions) (sends, receives *AgreedStream, err error) {
+	defer lockBoth(&f.mu, &other.mu)()
+	if f.call == nil || other.call == nil {
+		return nil, nil, ErrClosed
+	}
+	told := new([2]C.h26x_sdp_stream)
+	code := C.h26x_sdp_agreed(&f.call.handle, &other.call.handle, C.uint32_t(options), &told[0], &told[1])
+	if err := refusedBy(code); err != nil {
+		return nil, nil, err
+	}
+	return agreedOf(&told[0]), agreedOf(&told[1]), nil
+}
+
+func agreedOf(it *C.h26x_sdp_stream) *AgreedStream {
+	if !it.is_there {
+		return nil
+	}
+	return &AgreedStream{uint64(it.level), uint64(it.mode), AgreedSets(it.sets)}
+}
+
+// AcceptsDeclared tells whether f, one of our formats, receives a declared one as it is, of a description that is no offer,
+// as of RTSP and SAP (RFC 6184, 8.2.3; RFC 7798, 7.2.3; RFC 9328, 7.3.3): what a declared format says is of its stream. Not
+// of two codecs. Of the options, which are those of AnswerWith, AnyOrder and AsWebRTC count.
+//
+// Its errors are ErrOutOfRange of a bit that no option has, and ErrClosed.
+func (f *FormatParameters) AcceptsDeclared(declared *FormatParameters, options AnswerOptions) (bool, error) {
+	defer lockBoth(&f.mu, &declared.mu)()
+	if f.call == nil || declared.call == nil {
+		return false, ErrClosed
+	}
+	code := C.h26x_sdp_accepts_declared(&declared.call.handle, &f.call.handle, C.uint32_t(options))
+	if code == C.H26X_SDP_NO_ANSWER {
+		return false, nil
+	}
+	return code == C.H26X_OK, refusedBy(code)
+}
+
 func (f *FormatParameters) answer(ours *FormatParameters,
 	by func(offered, ours, made *C.h26x_sdp) C.uint32_t) (*FormatParameters, error) {
 	defer lockBoth(&f.mu, &ours.mu)()
@@ -338,6 +415,37 @@ func (f *FormatParameters) LevelSets() ([]LevelSets, error) {
 		return nil, &LevelSetsError{len(levels), ErrSDPAbsent}
 	}
 	return levels, nil
+}
+
+// SetsOfLevel are those that sprop-level-parameter-sets of H.264 has for a level, as an AgreedStream says it: of the first
+// there that is of that level; none where there is none. Give them to the decoder before the first picture, each behind
+// 00 00 00 01.
+//
+// Its errors are a LevelSetsError of the first level that is none, which is of ErrSDPNotHexadecimal, ErrSDPNoLevelSets,
+// ErrSDPNotBase64, ErrSDPEmptyUnit, ErrSDPOtherType or ErrSDPStartCode; ErrNotOfThisCodec for H.265 and H.266,
+// ErrOutOfMemory and ErrClosed.
+func (f *FormatParameters) SetsOfLevel(level uint64) ([][]byte, error) {
+	f.mu.RLock()
+	defer f.mu.RUnlock()
+	if f.call == nil {
+		return nil, ErrClosed
+	}
+	for sets, why := [][]byte(nil), new(C.h26x_refusal); ; {
+		set, err := written(func(to *C.uint8_t, room C.size_t, size *C.size_t) C.uint32_t {
+			i := C.size_t(len(sets))
+			return C.h26x_sdp_level_unit(&f.call.handle, C.uint64_t(level), i, to, room, size, why)
+		})
+		switch {
+		case err == nil:
+			sets = append(sets, []byte(set))
+		case errors.Is(err, ErrSDPAbsent):
+			return sets, nil
+		case errors.Is(err, ErrNotOfThisCodec), errors.Is(err, ErrOutOfMemory):
+			return nil, err
+		default:
+			return nil, &LevelSetsError{int(why.first), err}
+		}
+	}
 }
 
 // levelOf is a level of its two texts, each of which is read as what it is outside.

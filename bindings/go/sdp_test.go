@@ -481,6 +481,9 @@ func TestCapabilityPoints(t *testing.T) {
 	if len(many) != 100 || many[0].MaxBR != is(1) || many[99] != last {
 		t.Errorf("got %+v", many)
 	}
+}
+
+func TestCapabilityPointsThatAreRefused(t *testing.T) {
 	const name = "dec-parallel-cap="
 	for _, one := range []struct {
 		codec        h26x.Codec

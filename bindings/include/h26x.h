@@ -4,8 +4,8 @@
  * A packetizer cuts units of coded video into the payloads of RTP packets, each within a limit. A depacketizer
  * writes the units of such payloads again, and a receiver does where packets are given with their sequence numbers,
  * and some of them may be missing. RTP's own header, RTX and some of RTCP are read and written, and RED is read, one
- * packet after the other, or by a receiver of datagrams, which gives out access units. Format parameters of SDP are
- * read and answered.
+ * packet after the other, or by a receiver of datagrams, which gives out access units, and a sender of datagrams. Format
+ * parameters of SDP are read and answered.
  *
  * A handle is a struct of one pointer. No call keeps a pointer that it is given, waits, prints, or has state beside
  * its handle; memory comes from malloc, realloc and free. A handle may go from one thread to another.
@@ -14,12 +14,12 @@
  * once while none changes it.
  *
  * What may be NULL: a buffer, which then has length 0 whatever is said to be its length or its room; the pointer to
- * what isn't wanted (count, size, written, extra, received, pushed, behind, taken, unit, counts, at, why, number, len, begin,
- * end, profile, level, name_len, value_len, said, payload_type, codec, place, sender, media, told, sources that are told,
- * counted, the value of a number, and an RTP packet or a report that is told); and the pointer in a handle that is freed,
- * which is then no handle: so
- * set it to {0} and free it in any case. The calls whose names end in _close free a handle and write NULL into it; they
- * are functions of this header over _free, and no exports.
+ * what isn't wanted (at, begin, behind, codec, count, counted, counts, element, end, extra, in_time, len, level, media,
+ * name_len, number, payload_type, place, profile, pushed, received, receives, said, sender, sends, sent, size, so_far,
+ * taken, told, unit, value_len, why, written, the value of a number, and a format of RTX or of repair, an RTP packet,
+ * a report, sources and streams that are told); and the pointer in a handle that is freed, which is then no handle: so
+ * set it to {0} and free it in any case. The calls whose names end in _close free a handle and write NULL into it;
+ * they are functions of this header over _free, and no exports.
  *
  * What a caller owes, since nothing checks it:
  * - a handle is one that a _new or _clone wrote, and was not freed since;
@@ -177,7 +177,11 @@ enum h26x_code {
     H26X_SDP_RULE_ABOVE_LEVEL = 70,   /**< a parameter is above 16 times what the highest level asks for */
     H26X_SDP_RULE_ASPECT_RATIOS = 71, /**< sar-supported is above sar-understood, and not 255 */
     H26X_SDP_RULE_IN_BAND_SETS = 72,  /**< parameter sets of levels are used where all go in band */
-    H26X_SDP_RULE_HASH_TYPES = 73     /**< include-dph is no list of numbers up to 255 */
+    H26X_SDP_RULE_HASH_TYPES = 73,    /**< include-dph is no list of numbers up to 255 */
+    H26X_SDP_NO_LEVEL_SETS = 74,      /**< a level of sprop-level-parameter-sets has no sets; why->first: its place */
+    /* Of the elements of a header extension. */
+    H26X_RTP_NO_ELEMENT = 75,         /**< none begins from that place on */
+    H26X_RTP_ELEMENT_PAST_THE_END = 76 /**< its length passes the end of the extension, or isn't there */
 };
 
 /** A code in words, without a full stop; never NULL. */
@@ -682,6 +686,22 @@ H26X_API uint32_t h26x_access_units_skip(h26x_access_units *u, uint32_t now, uin
 H26X_API uint32_t h26x_access_units_next(h26x_access_units *u, uint32_t now, uint8_t *to, size_t room,
                                          h26x_access_unit *unit) H26X_MUST_USE;
 
+/** What came so far of an access unit that is open. */
+typedef struct {
+    size_t len;         /**< how many bytes its NAL units that came whole have, from `from` on */
+    uint32_t timestamp; /**< of its packets */
+    uint8_t extra;      /**< what is told of these units, as of an access unit */
+} h26x_so_far;
+
+/** Whether an access unit is open, and its NAL units that came whole: for who decodes each as soon as it is complete. Their
+ * text, in order, from byte `from` on, goes to the front of `to`, as much of it as there is room for, and *so_far is told.
+ * Later packets put units behind it, and h26x_access_units_next gives all of it, with what is told of the whole, once it
+ * has ended; so call that first until it has none, since before there is none here; one that ends is told there alone. A
+ * text of more than unit_limit bytes is given up: `len` is less then. False leaves `to` and *so_far, as for a handle of
+ * another kind. */
+H26X_API bool h26x_access_units_so_far(const h26x_access_units *u, size_t from, uint8_t *to, size_t room,
+                                       h26x_so_far *so_far);
+
 /** Whether packets wait, and not by the window alone; *at is then the tick at which to call h26x_access_units_next at the
  * latest, and else left. False for a handle of another kind. */
 H26X_API bool h26x_access_units_deadline(const h26x_access_units *u, uint32_t *at);
@@ -961,6 +981,21 @@ typedef struct {
  * H26X_RTP_PADDING_TOO_LONG, which leave *packet (RFC 3550, 5.1). */
 H26X_API uint32_t h26x_rtp_read(const uint8_t *datagram, size_t datagram_len, h26x_rtp_packet *packet) H26X_MUST_USE;
 
+/** An element of a header extension (RFC 8285, 4.1). */
+typedef struct {
+    size_t begin; /**< where its bytes begin, from the extension's front */
+    size_t len;   /**< how many it has: by the header of one byte 1 to 16, by that of two at most 255 */
+    uint8_t id;   /**< its local identifier, whose meaning an a=extmap line of SDP says (RFC 8285, 5) */
+} h26x_rtp_element;
+
+/** The next element of a header extension from a place on, behind padding (RFC 8285, 4.2 and 4.3): begin at 0, and go on
+ * behind it, at begin + len. `profile` is that of the packet's header: 0xBEDE of elements with a header of one byte, which end
+ * before an id of 15, or of 0 with a length; 0x1000 to 0x100F of those with two; an extension of another has none.
+ * H26X_RTP_NO_ELEMENT behind the last, and behind the end; H26X_RTP_ELEMENT_PAST_THE_END of one that isn't wholly there;
+ * both leave *element. */
+H26X_API uint32_t h26x_rtp_element_next(uint16_t profile, const uint8_t *extension, size_t extension_len, size_t from,
+                                        h26x_rtp_element *element) H26X_MUST_USE;
+
 /** The packet that a retransmission packet bears, of the payload type and the SSRC of its stream, told as they are given
  * (RTX; RFC 4588, 4): its payload lies in the same datagram, and it has no padding. The codes of h26x_rtp_read, or
  * H26X_RTX_NO_ORIGINAL; all leave *packet. */
@@ -995,6 +1030,20 @@ H26X_API uint32_t h26x_rtx_write(const uint8_t *datagram, size_t datagram_len, u
  * before it. H26X_RED_HEADERS_PAST_THE_END, H26X_RED_BLOCKS_PAST_THE_END; both leave *payload_type and *place. */
 H26X_API uint32_t h26x_red_primary(const uint8_t *payload, size_t payload_len, uint8_t *payload_type,
                                    size_t *place) H26X_MUST_USE;
+
+/** A block before the primary one of a redundant payload (RFC 2198, 3). */
+typedef struct {
+    size_t begin;              /**< where its bytes begin, from the payload's front */
+    size_t len;                /**< how many it has, at most 1023 */
+    uint16_t timestamp_offset; /**< how much earlier than the packet's its timestamp is, below 16384 */
+    uint8_t payload_type;      /**< by that of FEC it bears no payload of the stream (RFC 5109, 14.2) */
+} h26x_red_block;
+
+/** The blocks before the primary one of a redundant payload, in their order, to the front of `blocks`, as many as there is
+ * room for; *count is how many they all are (RED; RFC 2198, 3). The rest of `blocks` is left. The codes of
+ * h26x_red_primary, which leave both. */
+H26X_API uint32_t h26x_red_blocks(const uint8_t *payload, size_t payload_len, h26x_red_block *blocks, size_t blocks_room,
+                                  size_t *count) H26X_MUST_USE;
 
 /** Writes a picture loss indication, which asks for a keyframe, to the front of `to`; *len is 12 (PLI; RFC 4585, 6.3.1).
  * `sender` is one's own SSRC, `media` that of which a picture is lost. H26X_NO_ROOM tells *len and leaves `to`; so of
@@ -1190,6 +1239,10 @@ H26X_API uint32_t h26x_rtp_receiver_push(h26x_rtp_receiver *r, uint32_t now, uin
 H26X_API uint32_t h26x_rtp_receiver_next(h26x_rtp_receiver *r, uint32_t now, uint8_t *to, size_t room,
                                          h26x_access_unit *unit) H26X_MUST_USE;
 
+/** Whether an access unit is open, and its NAL units that came whole, as of h26x_access_units_so_far. */
+H26X_API bool h26x_rtp_receiver_so_far(const h26x_rtp_receiver *r, size_t from, uint8_t *to, size_t room,
+                                       h26x_so_far *so_far);
+
 /** Whether packets wait, and not by the window alone; *at is then the tick at which to call h26x_rtp_receiver_next at the
  * latest, and else left. False for a handle of another kind. */
 H26X_API bool h26x_rtp_receiver_deadline(const h26x_rtp_receiver *r, uint32_t *at);
@@ -1219,6 +1272,85 @@ H26X_API uint32_t h26x_rtp_receiver_finish(h26x_rtp_receiver *r);
 /** What was counted, as of h26x_access_units_count. H26X_WRONG_END leaves *counts. */
 H26X_API uint32_t h26x_rtp_receiver_count(const h26x_rtp_receiver *r, h26x_access_units_counts *counts);
 
+/* ---- Sending access units, as datagrams ---- */
+
+/** A sender of the packets of one stream: it writes RTP's header before each packet (RFC 3550), and holds the last ones, to
+ * send those again that a peer misses, as retransmissions (RTX; RFC 4588) or as they were; and it counts what sender reports
+ * tell. SRTP is the caller's to do behind it. */
+typedef struct { void *at; /**< NULL: no handle */ } h26x_rtp_sender;
+
+/** The streams of a sender (RFC 3550, 5.1): of its packets, and of their retransmissions (RFC 4588, 4), which has an SSRC
+ * and numbers of its own. First numbers should be random. */
+typedef struct {
+    uint32_t ssrc;            /**< of the packets */
+    uint32_t rtx_ssrc;        /**< of retransmissions, where has_rtx */
+    uint16_t sequence;        /**< the number of the next packet */
+    uint16_t rtx_sequence;    /**< the number of the next retransmission, where has_rtx */
+    uint8_t payload_type;     /**< of the codec: below 128 */
+    uint8_t rtx_payload_type; /**< of RTX whose apt is payload_type, where has_rtx: below 128 */
+    bool has_rtx;             /**< packets go again as retransmissions; else as they were */
+} h26x_rtp_streams;
+
+/** What was sent, as sender reports of each SSRC tell it, in the low 32 bits (RFC 3550, 6.4.1). Bytes are those of payloads;
+ * counts stay at 2^64 - 1. Packets that go again as they were are counted once more. */
+typedef struct {
+    uint64_t packets;     /**< packets of the stream */
+    uint64_t bytes;       /**< of their payloads */
+    uint64_t rtx_packets; /**< retransmissions */
+    uint64_t rtx_bytes;   /**< of their payloads: the two bytes of the number and the payload that is sent again */
+} h26x_rtp_sent;
+
+/** A sender of these streams. It holds the last packets whose payloads have `history` bytes together at most, and 32768
+ * packets at most. *made is written where the answer is H26X_OK. Else H26X_RTP_PAYLOAD_TYPE, of one above 127, where it is
+ * looked at, or H26X_OUT_OF_MEMORY. */
+H26X_API uint32_t h26x_rtp_sender_new(const h26x_rtp_streams *streams, size_t history, h26x_rtp_sender *made)
+    H26X_MUST_USE;
+
+/** Frees it with the packets that it holds. A handle of NULL is nothing to be freed. */
+H26X_API void h26x_rtp_sender_free(h26x_rtp_sender s);
+
+/** The same, and writes NULL into the handle, so that it may be closed again. A pointer of NULL is nothing to be freed
+ * either. */
+static inline void h26x_rtp_sender_close(h26x_rtp_sender *s)
+{
+    if (s != NULL) {
+        const h26x_rtp_sender it = *s;
+        s->at = NULL;
+        h26x_rtp_sender_free(it);
+    }
+}
+
+/** Makes RTP packets of all packets of an access unit, where they lie: in `packets` as h26x_packetize_units_into leaves
+ * them, one behind the other, each behind `headroom` bytes, the n-th of ends_len up to ends[n]. The header of each is
+ * written to the end of its headroom, and nothing else: the numbers follow each other, the timestamp is that of the
+ * access unit, and the last has the marker (RFC 3550, 5.1). *len is how many bytes each header has, 12, and with an
+ * extension 4 and its bytes more: so RTP packet n begins headroom - *len bytes behind the end of the one before (packet
+ * 0: behind the front), and ends at ends[n]. With a headroom of just *len bytes they lie one behind the other. The
+ * payloads of the last ones are copied, to be sent again.
+ * `extension`: what each header has as an extension, of this profile (5.3.1); of 0 bytes there is none.
+ * H26X_OUT_OF_RANGE where packets don't lie in `packets`: an end is before that of its headroom, or behind packets_len;
+ * H26X_RTP_EXTENSION of an extension that isn't of whole words of four bytes, or has over 65,535; H26X_NO_ROOM where a
+ * header has more bytes than the headroom, or than 272, which tells *len; H26X_OUT_OF_MEMORY; H26X_WRONG_END. All these
+ * send nothing, and change nothing, and the others leave *len. */
+H26X_API uint32_t h26x_rtp_sender_send(h26x_rtp_sender *s, uint32_t timestamp, uint16_t profile,
+                                       const uint8_t *extension, size_t extension_len, size_t headroom,
+                                       uint8_t *packets, size_t packets_len, const size_t *ends, size_t ends_len,
+                                       size_t *len) H26X_MUST_USE;
+
+/** Writes what goes again for the packet of this number to the front of `to`: its retransmission, or, without RTX, the same
+ * packet (RFC 4588, 4). *len is how many bytes it has: 0 where that packet is held no longer, or was never sent. So call it
+ * for each number that h26x_nack_read tells. It takes no memory. H26X_NO_ROOM tells *len; it and H26X_WRONG_END
+ * leave `to` and the sender, the latter *len too. */
+H26X_API uint32_t h26x_rtp_sender_resend(h26x_rtp_sender *s, uint16_t number, uint8_t *to, size_t room, size_t *len)
+    H26X_MUST_USE;
+
+/** The streams, with the numbers of the next packets; where there is no RTX its fields are 0. H26X_WRONG_END leaves
+ * *streams. */
+H26X_API uint32_t h26x_rtp_sender_streams(const h26x_rtp_sender *s, h26x_rtp_streams *streams);
+
+/** What was sent. H26X_WRONG_END leaves *sent. */
+H26X_API uint32_t h26x_rtp_sender_count(const h26x_rtp_sender *s, h26x_rtp_sent *sent);
+
 /* ---- Format parameters of SDP ---- */
 
 /** What an a=fmtp line says behind the payload type (RFC 6184, 8.1; RFC 7798, 7.1; RFC 9328, 7.2). Names are those of the
@@ -1232,7 +1364,9 @@ H26X_API uint32_t h26x_sdp_read(uint32_t codec, const uint8_t *text, size_t text
                                 h26x_refusal *why) H26X_MUST_USE;
 
 /** What a sender says of its stream, of the bytes that it begins with (Annex B): profile, tier and level of the first SPS,
- * and the sets before the first slice; of H.264 packetization-mode=1 too, as packetizers send. One of the codes from 33 to 35; H26X_UNKNOWN_CODEC, H26X_OUT_OF_MEMORY. */
+ * and the sets before the first slice; of H.264 packetization-mode=1 too, as packetizers send. Of H.265 peers that say no
+ * constraints answer only where h26x_sdp_unset takes interop-constraints and profile-compatibility-indicator away. One of
+ * the codes from 33 to 35; H26X_UNKNOWN_CODEC, H26X_OUT_OF_MEMORY. */
 H26X_API uint32_t h26x_sdp_of_payload(uint32_t codec, const uint8_t *payload, size_t payload_len, h26x_sdp *made)
     H26X_MUST_USE;
 
@@ -1269,6 +1403,37 @@ enum h26x_sdp_option {
 
 /** The answer by options. H26X_OUT_OF_RANGE of another bit. */
 H26X_API uint32_t h26x_sdp_answer_with(const h26x_sdp *offered, const h26x_sdp *ours, uint32_t options, h26x_sdp *made)
+    H26X_MUST_USE;
+
+/** Where the parameter sets of a stream are (RFC 6184, 8.1). */
+enum h26x_sdp_sets {
+    H26X_SDP_SETS_IN_BAND = 0,      /**< in the stream: who sends it sends them with its units */
+    H26X_SDP_SETS_TOLD = 1,         /**< in the sender's format: sprop-parameter-sets, or sprop-vps, sprop-sps and sprop-pps */
+    H26X_SDP_SETS_TOLD_OF_LEVEL = 2 /**< in its sprop-level-parameter-sets, those of the stream's level */
+};
+
+/** A stream from one end to the other. Where there is none all of it is 0. */
+typedef struct {
+    uint64_t level; /**< the highest of it: of H.264 twice level_idc, and 21 for level 1b; else as `level-id` says it */
+    uint64_t mode;  /**< `packetization-mode` of H.264; else 0 */
+    uint32_t sets;  /**< where its parameter sets are: one of h26x_sdp_sets */
+    bool is_there;  /**< whether there is one */
+    bool has_mode;  /**< whether it has a mode */
+} h26x_sdp_stream;
+
+/** What an offered format and its answer agree on, of the end that wrote `own`, whichever of the two that is: what it sends,
+ * and what it receives, where its direction has it (among `options`, which are those of h26x_sdp_answer_with).
+ * H26X_OUT_OF_RANGE of another bit; H26X_SDP_NO_ANSWER of two codecs; H26X_WRONG_END. All but H26X_OK leave both. A receiver
+ * starts with the sets of `other` where receives->sets says that they are told: h26x_sdp_unit has them, and those of a level
+ * h26x_sdp_level_unit. */
+H26X_API uint32_t h26x_sdp_agreed(const h26x_sdp *own, const h26x_sdp *other, uint32_t options, h26x_sdp_stream *sends,
+                                  h26x_sdp_stream *receives) H26X_MUST_USE;
+
+/** H26X_OK where one of our formats receives a declared one as it is, of a description that is no offer, as of RTSP and SAP
+ * (RFC 6184, 8.2.3; RFC 7798, 7.2.3; RFC 9328, 7.3.3): what a declared format says is of its stream. Else H26X_SDP_NO_ANSWER,
+ * as of two codecs. Of `options` H26X_SDP_ANY_ORDER and H26X_SDP_WEBRTC count; H26X_OUT_OF_RANGE of another bit;
+ * H26X_WRONG_END. */
+H26X_API uint32_t h26x_sdp_accepts_declared(const h26x_sdp *declared, const h26x_sdp *ours, uint32_t options)
     H26X_MUST_USE;
 
 /** The first rule that they break as a format of one's own, which then gives no answer: one of the codes from 64 on, or
@@ -1332,6 +1497,14 @@ H26X_API uint32_t h26x_sdp_units(const h26x_sdp *h, const uint8_t *name, size_t 
  * parameters are made. */
 H26X_API uint32_t h26x_sdp_unit(const h26x_sdp *h, const uint8_t *name, size_t name_len, size_t i, uint8_t *to,
                                 size_t room, size_t *len, h26x_refusal *why) H26X_MUST_USE;
+
+/** Unit i of those that sprop-level-parameter-sets of H.264 has for a level, as h26x_sdp_stream has it, to the front of `to`:
+ * of the first there that is of that level. H26X_SDP_ABSENT past the last, and where none is of that level;
+ * H26X_SDP_NOT_HEXADECIMAL, H26X_SDP_NO_LEVEL_SETS or one of the codes from 29 to 32 by the first fault of any level, whose
+ * place is why->first, since h26x_sdp_read refuses none of them; H26X_NO_ROOM tells *len and leaves `to`;
+ * H26X_NOT_OF_THIS_CODEC for H.265 and H.266; H26X_OUT_OF_MEMORY; H26X_WRONG_END. */
+H26X_API uint32_t h26x_sdp_level_unit(const h26x_sdp *h, uint64_t level, size_t i, uint8_t *to, size_t room, size_t *len,
+                                      h26x_refusal *why) H26X_MUST_USE;
 
 /** Parameter i of those that the RFC doesn't have, in their order: its name and its value. H26X_NO_ROOM where either
  * doesn't fit: *name_len and *value_len are told, and both buffers are left. H26X_SDP_ABSENT past the last;

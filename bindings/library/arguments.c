@@ -32,6 +32,7 @@ PROVED(access_units_push);
 PROVED(access_units_push_all);
 PROVED(access_units_skip);
 PROVED(access_units_next);
+PROVED(access_units_so_far);
 PROVED(access_units_deadline);
 PROVED(access_units_missing);
 PROVED(access_units_nacks);
@@ -50,11 +51,13 @@ PROVED(unit_is_plain);
 PROVED(h264_profile_level);
 PROVED(is_rtcp);
 PROVED(rtp_read);
+PROVED(rtp_element_next);
 PROVED(rtp_original);
 PROVED(rtp_write);
 PROVED(rtp_write_before);
 PROVED(rtx_write);
 PROVED(red_primary);
+PROVED(red_blocks);
 PROVED(pli_write);
 PROVED(pli_read);
 PROVED(fir_write);
@@ -69,13 +72,20 @@ PROVED(rtp_receiver_free);
 PROVED(rtp_receiver_sources);
 PROVED(rtp_receiver_push);
 PROVED(rtp_receiver_next);
+PROVED(rtp_receiver_so_far);
 PROVED(rtp_receiver_deadline);
 PROVED(rtp_receiver_nacks);
 PROVED(rtp_receiver_statistics);
 PROVED(rtp_receiver_report);
 PROVED(rtp_receiver_count);
+PROVED(rtp_sender_free);
+PROVED(rtp_sender_send);
+PROVED(rtp_sender_resend);
+PROVED(rtp_sender_streams);
+PROVED(rtp_sender_count);
 PROVED(sdp_read);
 PROVED(sdp_of_payload);
+PROVED(sdp_agreed);
 PROVED(sdp_broken_rule);
 PROVED(sdp_name);
 PROVED(sdp_free);
@@ -86,6 +96,7 @@ PROVED(sdp_value);
 PROVED(sdp_number);
 PROVED(sdp_units);
 PROVED(sdp_unit);
+PROVED(sdp_level_unit);
 PROVED(sdp_other);
 PROVED(sdp_max_don_diff);
 PROVED(sdp_constraints);
@@ -116,6 +127,7 @@ static size_t no_ends[1];
 static uint16_t no_numbers[1];
 static h26x_capability_point no_points[1];
 static h26x_rtp_payload no_payloads[1];
+static h26x_red_block no_blocks[1];
 static h26x_push_told none_pushed[1];
 static h26x_receive_told none_received[1];
 
@@ -125,6 +137,7 @@ static h26x_receive_told none_received[1];
 #define NUMBERS(at, len) WANTED(at, no_numbers), (at) != NULL ? (len) : 0
 #define POINTS(at, len) WANTED(at, no_points), (at) != NULL ? (len) : 0
 #define PAYLOADS(at, len) WANTED(at, no_payloads), (at) != NULL ? (len) : 0
+#define BLOCKS(at, len) WANTED(at, no_blocks), (at) != NULL ? (len) : 0
 #define PUSHED(at, len) WANTED(at, none_pushed), (at) != NULL ? (len) : 0
 #define RECEIVED(at, len) WANTED(at, none_received), (at) != NULL ? (len) : 0
 
@@ -352,6 +365,13 @@ uint32_t h26x_access_units_next(h26x_access_units *u, uint32_t now, uint8_t *to,
     return proved_access_units_next(u, now, BYTES(to, room), WANTED(unit, &unwanted));
 }
 
+bool h26x_access_units_so_far(const h26x_access_units *u, size_t from, uint8_t *to, size_t room,
+                              h26x_so_far *so_far)
+{
+    h26x_so_far unwanted;
+    return proved_access_units_so_far(u, from, BYTES(to, room), WANTED(so_far, &unwanted));
+}
+
 bool h26x_access_units_deadline(const h26x_access_units *u, uint32_t *at)
 {
     uint32_t unwanted;
@@ -466,6 +486,13 @@ uint32_t h26x_rtp_read(const uint8_t *datagram, size_t datagram_len, h26x_rtp_pa
     return proved_rtp_read(BYTES(datagram, datagram_len), WANTED(packet, &unwanted));
 }
 
+uint32_t h26x_rtp_element_next(uint16_t profile, const uint8_t *extension, size_t extension_len, size_t from,
+                               h26x_rtp_element *element)
+{
+    h26x_rtp_element unwanted;
+    return proved_rtp_element_next(profile, BYTES(extension, extension_len), from, WANTED(element, &unwanted));
+}
+
 uint32_t h26x_rtp_original(const uint8_t *datagram, size_t datagram_len, uint8_t payload_type, uint32_t ssrc,
                            h26x_rtp_packet *packet)
 {
@@ -506,6 +533,13 @@ uint32_t h26x_red_primary(const uint8_t *payload, size_t payload_len, uint8_t *p
     size_t unwanted_place;
     return proved_red_primary(BYTES(payload, payload_len), WANTED(payload_type, &unwanted_type),
                               WANTED(place, &unwanted_place));
+}
+
+uint32_t h26x_red_blocks(const uint8_t *payload, size_t payload_len, h26x_red_block *blocks, size_t blocks_room,
+                         size_t *count)
+{
+    size_t unwanted;
+    return proved_red_blocks(BYTES(payload, payload_len), BLOCKS(blocks, blocks_room), WANTED(count, &unwanted));
 }
 
 uint32_t h26x_pli_write(uint32_t sender, uint32_t media, uint8_t *to, size_t room, size_t *len)
@@ -606,6 +640,13 @@ uint32_t h26x_rtp_receiver_next(h26x_rtp_receiver *r, uint32_t now, uint8_t *to,
     return proved_rtp_receiver_next(r, now, BYTES(to, room), WANTED(unit, &unwanted));
 }
 
+bool h26x_rtp_receiver_so_far(const h26x_rtp_receiver *r, size_t from, uint8_t *to, size_t room,
+                             h26x_so_far *so_far)
+{
+    h26x_so_far unwanted;
+    return proved_rtp_receiver_so_far(r, from, BYTES(to, room), WANTED(so_far, &unwanted));
+}
+
 bool h26x_rtp_receiver_deadline(const h26x_rtp_receiver *r, uint32_t *at)
 {
     uint32_t unwanted;
@@ -638,6 +679,42 @@ uint32_t h26x_rtp_receiver_count(const h26x_rtp_receiver *r, h26x_access_units_c
     return proved_rtp_receiver_count(r, WANTED(counts, &unwanted));
 }
 
+/* ---- Sending access units, as datagrams ---- */
+
+void h26x_rtp_sender_free(h26x_rtp_sender s)
+{
+    if (s.at != NULL)
+        proved_rtp_sender_free(s);
+}
+
+uint32_t h26x_rtp_sender_send(h26x_rtp_sender *s, uint32_t timestamp, uint16_t profile,
+                              const uint8_t *extension, size_t extension_len, size_t headroom,
+                              uint8_t *packets, size_t packets_len, const size_t *ends, size_t ends_len,
+                              size_t *len)
+{
+    size_t unwanted;
+    return proved_rtp_sender_send(s, timestamp, profile, BYTES(extension, extension_len), headroom,
+                                  BYTES(packets, packets_len), ENDS(ends, ends_len), WANTED(len, &unwanted));
+}
+
+uint32_t h26x_rtp_sender_resend(h26x_rtp_sender *s, uint16_t number, uint8_t *to, size_t room, size_t *len)
+{
+    size_t unwanted;
+    return proved_rtp_sender_resend(s, number, BYTES(to, room), WANTED(len, &unwanted));
+}
+
+uint32_t h26x_rtp_sender_streams(const h26x_rtp_sender *s, h26x_rtp_streams *streams)
+{
+    h26x_rtp_streams unwanted;
+    return proved_rtp_sender_streams(s, WANTED(streams, &unwanted));
+}
+
+uint32_t h26x_rtp_sender_count(const h26x_rtp_sender *s, h26x_rtp_sent *sent)
+{
+    h26x_rtp_sent unwanted;
+    return proved_rtp_sender_count(s, WANTED(sent, &unwanted));
+}
+
 /* ---- Format parameters of SDP ---- */
 
 uint32_t h26x_sdp_read(uint32_t codec, const uint8_t *text, size_t text_len, h26x_sdp *made,
@@ -651,6 +728,14 @@ uint32_t h26x_sdp_of_payload(uint32_t codec, const uint8_t *payload, size_t payl
                              h26x_sdp *made)
 {
     return proved_sdp_of_payload(codec, BYTES(payload, payload_len), made);
+}
+
+uint32_t h26x_sdp_agreed(const h26x_sdp *own, const h26x_sdp *other, uint32_t options,
+                         h26x_sdp_stream *sends, h26x_sdp_stream *receives)
+{
+    h26x_sdp_stream unwanted[2];
+    return proved_sdp_agreed(own, other, options, WANTED(sends, &unwanted[0]),
+                             WANTED(receives, &unwanted[1]));
 }
 
 uint32_t h26x_sdp_broken_rule(const h26x_sdp *h, uint32_t options, h26x_refusal *why)
@@ -719,6 +804,15 @@ uint32_t h26x_sdp_unit(const h26x_sdp *h, const uint8_t *name, size_t name_len, 
     h26x_refusal unwanted_why;
     return proved_sdp_unit(h, BYTES(name, name_len), i, BYTES(to, room),
                            WANTED(len, &unwanted_len), WANTED(why, &unwanted_why));
+}
+
+uint32_t h26x_sdp_level_unit(const h26x_sdp *h, uint64_t level, size_t i, uint8_t *to, size_t room,
+                             size_t *len, h26x_refusal *why)
+{
+    size_t unwanted_len;
+    h26x_refusal unwanted_why;
+    return proved_sdp_level_unit(h, level, i, BYTES(to, room), WANTED(len, &unwanted_len),
+                                 WANTED(why, &unwanted_why));
 }
 
 uint32_t h26x_sdp_other(const h26x_sdp *h, size_t i, uint8_t *name_to, size_t name_room,

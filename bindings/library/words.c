@@ -162,6 +162,12 @@ const char *h26x_strerror(uint32_t code)
         return "parameter sets of levels are used where all go in band";
     case H26X_SDP_RULE_HASH_TYPES:
         return "types of hashes are no list of numbers up to 255";
+    case H26X_SDP_NO_LEVEL_SETS:
+        return "a level has no parameter sets";
+    case H26X_RTP_NO_ELEMENT:
+        return "no element of the header extension is left";
+    case H26X_RTP_ELEMENT_PAST_THE_END:
+        return "an element passes the end of the header extension";
     default:
         return "unknown code";
     }

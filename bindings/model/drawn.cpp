@@ -165,8 +165,9 @@ private:
         is_same(memcmp(memory, bytes.data(), bytes.size()) == 0, "the bytes");
         // all else of the memory is left
         memset(memory, UNTOUCHED, bytes.size());
-        for (size_t i = 0; i < 64; i++)
-            is_same(memory[i] == UNTOUCHED && memory[bytes.size() + i] == UNTOUCHED, "memory behind the bytes");
+        static const Bytes untouched(64, static_cast<char>(UNTOUCHED));
+        is_same(memcmp(memory, untouched.data(), 64) == 0 && memcmp(memory + bytes.size(), untouched.data(), 64) == 0,
+                "memory behind the bytes");
         totals.no_room += wanted == H26X_NO_ROOM;
         if (wanted == H26X_OK) {
             totals.bytes += told.len;
@@ -208,10 +209,12 @@ private:
         size_t count = 99;
         const size_t room = place % 20;
         memset(numbers, UNTOUCHED, sizeof numbers);
+        const size_t told = std::min(room, missing.size());
         is_same(h26x_access_units_missing(&u, numbers, room, &count) == H26X_OK, "h26x_access_units_missing");
         is_same(count == missing.size(), "how many numbers are missing");
-        for (size_t i = 0; i < 20; i++)
-            is_same(numbers[i] == (i < room && i < missing.size() ? missing[i] : 0xeeee), "the missing numbers");
+        is_same(std::equal(numbers, numbers + told, missing.begin())
+                    && std::all_of(numbers + told, numbers + 20, [](uint16_t it) { return it == 0xeeee; }),
+                "the missing numbers");
         many_missing = missing.size() > 8;
         totals.missing += missing.size();
     }
@@ -342,7 +345,7 @@ const char *never(const Totals &t)
     return nullptr;
 }
 
-void draw_wrong_settings(network::Random &r, h26x_access_units_config &c)
+void draw_wrong_settings(Random &r, h26x_access_units_config &c)
 {
     c.codec = r.one_in(2) ? c.codec : 262 + r.below(6);
     c.numbers = r.one_in(2);
@@ -359,7 +362,7 @@ int main(int argc, char **argv)
     }
     const uint64_t seed = strtoull(argv[1], nullptr, 10), count = strtoull(argv[2], nullptr, 10);
     memset(memory, UNTOUCHED, sizeof memory);
-    network::Random r{seed};
+    Random r{seed};
     network::Pools pools(r);
     Totals totals;
     while (totals.packets < count) {

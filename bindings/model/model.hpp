@@ -782,6 +782,7 @@ struct Waiting {
     std::optional<int64_t> due;
     std::map<int64_t, Packet> packets;
     std::list<std::pair<int64_t, uint32_t>> arrivals;
+    size_t bytes = 0;       // of their payloads
     bool has_begun = false; // the first packet of the stream went, or its number is told
     bool is_over = false;
 
@@ -789,14 +790,6 @@ struct Waiting {
 
     // The place of a number: the first one from the place that is due on.
     int64_t place_of(uint16_t number) const { return *due + static_cast<uint16_t>(number - *due); }
-
-    size_t bytes() const
-    {
-        size_t sum = 0;
-        for (const auto &it : packets)
-            sum += it.second.payload.size();
-        return sum;
-    }
 
     uint32_t put(uint32_t window, uint32_t now, const Packet &packet, uint16_t &behind)
     {
@@ -810,6 +803,7 @@ struct Waiting {
         if (!packets.emplace(place, packet).second)
             return H26X_TWICE;
         arrivals.emplace_back(place, now);
+        bytes += packet.payload.size();
         return H26X_HELD;
     }
 
@@ -822,14 +816,15 @@ struct Waiting {
         arrivals.erase(std::find_if(arrivals.begin(), arrivals.end(), [&](auto &it) { return it.first == place; }));
         due = place + 1;
         has_begun = true;
+        bytes -= packet.payload.size();
         return packet;
     }
 };
 
 // Which of the last 1024 numbers that a stream passed were taken.
 struct Passed {
-    int64_t count = 0;                 // so many behind the one that is due are known
-    std::map<uint16_t, uint16_t> last; // of those taken that share a rest modulo 1024, the last one
+    int64_t count = 0;                          // so many behind the one that is due are known
+    std::vector<std::optional<uint16_t>> taken; // of those that share a rest modulo 1024, the last one; or of none any
 
     bool has(const std::optional<int64_t> &due, uint16_t number) const
     {
@@ -839,14 +834,14 @@ struct Passed {
 
     bool has_taken(const std::optional<int64_t> &due, uint16_t number) const
     {
-        const auto it = last.find(number % 1024);
-        return has(due, number) && it != last.end() && it->second == number;
+        return has(due, number) && !taken.empty() && taken[number % 1024] == number;
     }
 
     void take(int64_t due, uint16_t number)
     {
         count = std::min<int64_t>(1024, count + static_cast<uint16_t>(number - due) + 1);
-        last[number % 1024] = number;
+        taken.resize(1024);
+        taken[number % 1024] = number;
     }
 };
 
@@ -901,7 +896,7 @@ public:
         }
         if (is_ahead(packet.number))
             return push_ahead(now, packet);
-        if (waiting.bytes() > config.held_limit)
+        if (waiting.bytes > config.held_limit)
             return H26X_FULL;
         const uint32_t answer = waiting.put(config.window, now, packet, behind);
         counts.late += answer == H26X_PUSHED_LATE;
@@ -936,10 +931,12 @@ public:
         std::vector<uint16_t> numbers;
         if (waiting.packets.empty())
             return numbers;
-        const int64_t from = waiting.has_begun ? *waiting.due : waiting.packets.begin()->first;
-        for (int64_t place = from; place < waiting.newest(); place++)
-            if (waiting.packets.count(place) == 0)
+        int64_t place = waiting.has_begun ? *waiting.due : waiting.packets.begin()->first;
+        for (const auto &it : waiting.packets) {
+            for (; place < it.first; place++)
                 numbers.push_back(static_cast<uint16_t>(place));
+            place = it.first + 1;
+        }
         return numbers;
     }
 
@@ -1029,9 +1026,9 @@ private:
             counts.stray++;
             return H26X_STRAY;
         }
-        if (waiting.bytes() > config.held_limit)
+        if (waiting.bytes > config.held_limit)
             return H26X_FULL;
-        const bool has_room = waiting.packets.empty() || waiting.bytes() + stray->payload.size() <= config.held_limit;
+        const bool has_room = waiting.packets.empty() || waiting.bytes + stray->payload.size() <= config.held_limit;
         const bool is_joined = has_room && is_beyond(waiting.place_of(stray->number)) && stray->number != packet.number;
         const bool is_behind = is_joined && waiting.place_of(stray->number) > waiting.place_of(packet.number);
         uint16_t behind;
@@ -1090,7 +1087,7 @@ private:
         const int64_t first = waiting.packets.begin()->first;
         const bool has_waited = longest_wait() != UINT32_MAX && now - waiting.arrivals.front().second >= longest_wait();
         return first == *waiting.due || waiting.newest() - first >= config.window - 1 || has_waited || waiting.is_over
-            || waiting.bytes() > config.held_limit;
+            || waiting.bytes > config.held_limit;
     }
 
     // The next access unit that has ended, if one has at this tick.

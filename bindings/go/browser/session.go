@@ -11,81 +11,74 @@ import (
 	"syscall"
 	"time"
 
+	"emupedestal/h26x"
+
 	"github.com/pion/interceptor"
-	"github.com/pion/rtp"
 	"github.com/pion/webrtc/v3"
 )
 
-const (
-	clockRate = 90000
-	perSecond = 30
-	// How long a run may take beside the stream itself.
-	patience = 40 * time.Second
-)
+// How long a run may take beside the stream itself.
+const patience = 40 * time.Second
 
 //go:embed page.html
 var page []byte
 
-// shown is what the browser tells: statistics of its connection, how many pictures were put on the screen, and the hash
-// of each that was decoded.
-type shown struct {
+// told is what the page tells: statistics of its connection, and of a stream that it shows how many pictures were put on
+// the screen, and the hash of each that was decoded.
+type told struct {
 	FramesReceived, FramesDecoded, FramesDropped, FramesPresented int
-	KeyFramesDecoded, PacketsReceived, PacketsLost, PliCount      int
+	KeyFramesDecoded, PacketsReceived, PacketsLost                int
+	FramesSent, PacketsSent, RetransmittedPacketsSent             int
+	NackCount, PliCount                                           int
 	Frames                                                        []string
 }
 
-// A session sends packets to one browser.
+// An end sends or receives at a session, by a format that it has answered.
+type end interface {
+	ours() (*h26x.FormatParameters, error)
+	begin(*webrtc.PeerConnection, webrtc.RTPCodecParameters) error
+	// play does what there is to do once the page is connected.
+	play() error
+}
+
+// A session is a connection to the page of one browser. DTLS, SRTP and ICE are Pion's; RTP and RTCP are the end's.
 type session struct {
-	packets [][][]byte
-	track   *webrtc.TrackLocalStaticRTP
-	peer    *webrtc.PeerConnection
-	shown   chan shown
-	failed  chan error
+	end    end
+	peer   *webrtc.PeerConnection
+	format webrtc.RTPCodecParameters
+	told   chan told
+	failed chan error
 }
 
-// newSession makes a peer that sends one track.
-func newSession(packets [][][]byte) (*session, error) {
-	engine, registry := &webrtc.MediaEngine{}, &interceptor.Registry{}
-	codec := webrtc.RTPCodecCapability{
-		MimeType: webrtc.MimeTypeH264, ClockRate: clockRate,
-		SDPFmtpLine:  "level-asymmetry-allowed=1;packetization-mode=1;profile-level-id=42e01f",
-		RTCPFeedback: []webrtc.RTCPFeedback{{Type: "nack"}, {Type: "nack", Parameter: "pli"}},
-	}
-	parameters := webrtc.RTPCodecParameters{RTPCodecCapability: codec, PayloadType: 102}
-	if err := engine.RegisterCodec(parameters, webrtc.RTPCodecTypeVideo); err != nil {
-		return nil, err
-	}
-	if err := webrtc.RegisterDefaultInterceptors(engine, registry); err != nil {
-		return nil, err
-	}
-	api := webrtc.NewAPI(webrtc.WithMediaEngine(engine), webrtc.WithInterceptorRegistry(registry))
-	peer, err := api.NewPeerConnection(webrtc.Configuration{})
+// connect makes a Pion that has no part in RTP and RTCP, to answer the page's offer.
+func (s *session) connect(offer string) error {
+	ours, err := s.end.ours()
 	if err != nil {
-		return nil, err
+		return err
 	}
-	track, err := webrtc.NewTrackLocalStaticRTP(codec, "video", "stream")
-	if err != nil {
-		return nil, err
+	if s.format, err = answered(offer, ours); err != nil {
+		return err
 	}
-	sender, err := peer.AddTrack(track)
-	if err != nil {
-		return nil, err
+	engine := &webrtc.MediaEngine{}
+	if err := engine.RegisterCodec(s.format, webrtc.RTPCodecTypeVideo); err != nil {
+		return err
 	}
-	go readReports(sender)
-	return &session{packets, track, peer, make(chan shown, 1), make(chan error, 1)}, nil
+	settings := webrtc.SettingEngine{}
+	// SRTP takes a packet once, and behind it one is lost here that comes again.
+	settings.DisableSRTPReplayProtection(true)
+	api := webrtc.NewAPI(webrtc.WithMediaEngine(engine), webrtc.WithSettingEngine(settings),
+		webrtc.WithInterceptorRegistry(&interceptor.Registry{}))
+	if s.peer, err = api.NewPeerConnection(webrtc.Configuration{}); err != nil {
+		return err
+	}
+	return s.end.begin(s.peer, s.format)
 }
 
-// readReports reads what the browser reports: requests for lost packets are answered meanwhile.
-func readReports(sender *webrtc.RTPSender) {
-	for buffer := make([]byte, 1500); ; {
-		if _, _, err := sender.Read(buffer); err != nil {
-			return
-		}
-	}
-}
-
-// answer answers the browser's offer.
+// answer answers the page's offer.
 func (s *session) answer(offer webrtc.SessionDescription) (*webrtc.SessionDescription, error) {
+	if err := s.connect(offer.SDP); err != nil {
+		return nil, err
+	}
 	if err := s.peer.SetRemoteDescription(offer); err != nil {
 		return nil, err
 	}
@@ -98,26 +91,15 @@ func (s *session) answer(offer webrtc.SessionDescription) (*webrtc.SessionDescri
 		return nil, err
 	}
 	<-gathered
-	return s.peer.LocalDescription(), nil
+	answer = *s.peer.LocalDescription()
+	answer.SDP = withFormat(answer.SDP, s.format)
+	return &answer, nil
 }
 
-// play sends the packets, an access unit each thirtieth of a second, the marker on the last of each.
-func (s *session) play() error {
-	header := rtp.Header{Version: 2, SequenceNumber: 65500}
-	tick := time.NewTicker(time.Second / perSecond)
-	defer tick.Stop()
-	for _, packets := range s.packets {
-		for i, payload := range packets {
-			header.Marker = i+1 == len(packets)
-			if err := s.track.WriteRTP(&rtp.Packet{Header: header, Payload: payload}); err != nil {
-				return err
-			}
-			header.SequenceNumber++
-		}
-		header.Timestamp += clockRate / perSecond
-		<-tick.C
+func (s *session) close() {
+	if s.peer != nil {
+		s.peer.Close()
 	}
-	return nil
 }
 
 // ServeHTTP gives the browser the page, and does what the page asks for.
@@ -131,7 +113,7 @@ func (s *session) ServeHTTP(w http.ResponseWriter, request *http.Request) {
 
 func (s *session) serve(w http.ResponseWriter, request *http.Request) error {
 	var offer webrtc.SessionDescription
-	var told shown
+	var counts told
 	var failure string
 	body := json.NewDecoder(request.Body)
 	switch request.URL.Path {
@@ -145,12 +127,12 @@ func (s *session) serve(w http.ResponseWriter, request *http.Request) error {
 		}
 		return json.NewEncoder(w).Encode(answer)
 	case "/play":
-		return s.play()
+		return s.end.play()
 	case "/counts":
-		if err := body.Decode(&told); err != nil {
+		if err := body.Decode(&counts); err != nil {
 			return err
 		}
-		s.shown <- told
+		s.told <- counts
 	case "/failed":
 		if err := body.Decode(&failure); err != nil {
 			return err
@@ -165,36 +147,38 @@ func (s *session) serve(w http.ResponseWriter, request *http.Request) error {
 	return nil
 }
 
-// watchedBy has a browser show the stream, and answers what it tells.
-func (s *session) watchedBy(browser string) (shown, error) {
-	defer s.peer.Close()
+// with has a browser open the page, whose stream has a length, and answers what that tells.
+func with(browser, query string, length time.Duration, end end) (told, error) {
+	s := &session{end: end, told: make(chan told, 1), failed: make(chan error, 9)}
+	defer s.close()
 	listener, err := net.Listen("tcp", "127.0.0.1:0")
 	if err != nil {
-		return shown{}, err
+		return told{}, err
 	}
 	defer listener.Close()
 	go http.Serve(listener, s)
 	profile, err := os.MkdirTemp("", "browser")
 	if err != nil {
-		return shown{}, err
+		return told{}, err
 	}
 	defer os.RemoveAll(profile)
 	program := exec.Command(browser, "--headless=new", "--no-sandbox", "--disable-gpu", "--no-first-run",
-		"--autoplay-policy=no-user-gesture-required", "--disable-features=WebRtcHideLocalIpsWithMdns",
-		"--user-data-dir="+profile, "http://"+listener.Addr().String())
+		"--disable-dev-shm-usage", "--autoplay-policy=no-user-gesture-required", "--disable-features=WebRtcHideLocalIpsWithMdns",
+		"--use-fake-ui-for-media-stream", "--use-fake-device-for-media-stream", "--user-data-dir="+profile,
+		"http://"+listener.Addr().String()+"/?"+query)
 	// Its own processes end with it.
 	program.SysProcAttr = &syscall.SysProcAttr{Setpgid: true}
 	if err := program.Start(); err != nil {
-		return shown{}, err
+		return told{}, err
 	}
 	defer program.Wait()
 	defer syscall.Kill(-program.Process.Pid, syscall.SIGKILL)
 	select {
-	case told := <-s.shown:
-		return told, nil
+	case counts := <-s.told:
+		return counts, nil
 	case err := <-s.failed:
-		return shown{}, err
-	case <-time.After(patience + time.Duration(len(s.packets))*time.Second/perSecond):
-		return shown{}, errors.New("the browser tells nothing")
+		return told{}, err
+	case <-time.After(patience + length):
+		return told{}, errors.New("the browser tells nothing")
 	}
 }

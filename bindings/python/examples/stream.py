@@ -1,6 +1,6 @@
 #!/usr/bin/env python3
-"""Sends an Annex B stream as RTP packets over UDP on 127.0.0.1, loses some of them on the way, receives
-the rest, and writes the units of which no packet is missing.
+"""Sends an Annex B stream as RTP packets over UDP on 127.0.0.1, loses some of them on the way, asks for
+these again, and writes the access units that come.
 
     python3 examples/stream.py H264 IN.h264 OUT.h264 --lost 50
 """
@@ -8,13 +8,25 @@ the rest, and writes the units of which no packet is missing.
 import argparse
 import random
 import socket
-import struct
 from typing import Iterator, List
 
-from h26x import Codec, NoRoom, Outcome, PacketError, Packetizer, Receiver, units
+from h26x import (
+    AccessUnit,
+    AccessUnitConfig,
+    Codec,
+    GenericNack,
+    NackTimes,
+    Packetizer,
+    RtpPayloadTypes,
+    RtpReceiver,
+    RtpSender,
+    RtpStream,
+    rtcp_packets,
+    units,
+)
 
-#: RTP's header without extensions (RFC 3550, 5.1): version, marker and type, number, time, source.
-RTP = struct.Struct("!BBHII")
+#: Ticks are milliseconds.
+EACH_FRAME, MAX_WAIT = 33, 1000
 
 
 def access_units(codec: Codec, data: bytes) -> Iterator[bytes]:
@@ -35,49 +47,71 @@ def is_slice(codec: Codec, unit: bytes) -> bool:
 
 
 class Sender:
-    """Makes the packets of a frame in one buffer, behind room for RTP's header, and sends them."""
+    """Sends access units, of whose packets some are lost, and those again that are asked for."""
 
     def __init__(self, codec: Codec, to: socket.socket, lost: int) -> None:
-        self.packetizer, self.to, self.lost = Packetizer(codec), to, lost
-        self.buffer = bytearray(64 * 1024)
-        self.sequence = 65000
-        self.draw = random.Random(1)
+        media, rtx = RtpStream(1, 96, sequence=65000), RtpStream(2, 97, sequence=7)
+        self.rtp, self.packetizer = RtpSender(media, rtx, history=4_000_000), Packetizer(codec)
+        self.to, self.lost, self.missed, self.draw = to, lost, 0, random.Random(1)
 
-    def send(self, frame: bytes, time: int) -> int:
-        """Sends a frame, and answers how many packets of it were lost."""
-        ends = self.packets(frame)
-        begin, lost = 0, 0
-        for n, end in enumerate(ends):
-            marker = 0x80 if n + 1 == len(ends) else 0
-            RTP.pack_into(self.buffer, begin, 0x80, marker | 96, self.sequence, time, 1)
-            self.sequence = self.sequence + 1 & 65535
-            if self.draw.randrange(1000) < self.lost:
-                lost += 1
-            else:
-                self.to.send(memoryview(self.buffer)[begin:end])
-            begin = end
-        return lost
+    def send(self, frame: bytes, timestamp: int, lost: int) -> None:
+        """Sends a frame, of which so many packets of 1000 are lost."""
+        packets = self.packetizer.packetize_units(1188, frame)
+        for datagram in self.rtp.send(timestamp, packets):
+            self.goes(datagram, lost)
 
-    def packets(self, frame: bytes) -> List[int]:
-        """Where the packets of a frame end in the buffer."""
-        while True:
-            try:
-                return self.packetizer.packetize_into(1200, frame, self.buffer, RTP.size)
-            except NoRoom as why:
-                self.buffer.extend(bytes(why.size - len(self.buffer)))
+    def goes(self, datagram: bytes, lost: int) -> None:
+        """Sends a datagram, unless it is lost."""
+        if self.draw.randrange(1000) < lost:
+            self.missed += 1
+        else:
+            self.to.send(datagram)
+
+    def answer(self) -> None:
+        """Sends again what is asked for."""
+        for datagram in waiting(self.to):
+            for packet in rtcp_packets(datagram):
+                nack = GenericNack.read(packet)
+                for number in nack.numbers if nack else ():
+                    again = self.rtp.resend(number)
+                    if again is not None:
+                        self.goes(again, self.lost)
 
 
-def receive(receiver: Receiver, datagram: bytes) -> bytes:
-    """The units that a datagram completes. Says what is missing."""
-    _, _, sequence, _, _ = RTP.unpack_from(datagram)
-    try:
-        got = receiver.receive(sequence, datagram[RTP.size :])
-    except PacketError as why:
-        print(f"packet {sequence} is passed over: {why}")
-        return b""
-    if got.outcome is Outcome.GAP:
-        print(f"{got.distance} missing before packet {sequence}")
-    return got.data
+def receive(receiver: RtpReceiver, by: socket.socket, now: int) -> bytes:
+    """The access units that have ended. Asks for what is missing."""
+    ended: List[AccessUnit] = []
+    for datagram in waiting(by):
+        receiver.push(now, 90 * now, datagram)
+        ended += receiver.units(now)
+    missing = receiver.nacks(now, NackTimes(first=0, again=EACH_FRAME, most=20))
+    if missing:
+        packet, _ = GenericNack(3, receiver.sources().media or 0, missing).write(1200)
+        by.send(packet)
+    for unit in ended:
+        if unit.missing:
+            print(f"{unit.missing} missing before packet {unit.last}")
+    return b"".join(unit.data for unit in ended)
+
+
+def waiting(there: socket.socket) -> Iterator[bytes]:
+    """The datagrams that wait."""
+    while True:
+        try:
+            yield there.recv(65536)
+        except BlockingIOError:
+            return
+
+
+def connected() -> List[socket.socket]:
+    """Two sockets that send to each other."""
+    both = [socket.socket(socket.AF_INET, socket.SOCK_DGRAM) for _ in range(2)]
+    for one in both:
+        one.bind(("127.0.0.1", 0))
+        one.setblocking(False)
+    for one, other in zip(both, both[::-1]):
+        one.connect(other.getsockname())
+    return both
 
 
 def main() -> None:
@@ -88,30 +122,22 @@ def main() -> None:
     arguments.add_argument("output")
     arguments.add_argument("--lost", type=int, default=0, help="how many packets of 1000 are lost")
     given = arguments.parse_args()
-    codec, lost, packets = Codec[given.codec], 0, 0
-    with socket.socket(socket.AF_INET, socket.SOCK_DGRAM) as there, socket.socket(
-        socket.AF_INET, socket.SOCK_DGRAM
-    ) as here, Receiver(codec, run_limit=4_000_000) as receiver:
-        there.bind(("127.0.0.1", 0))
-        there.setblocking(False)
-        here.connect(there.getsockname())
-        sender = Sender(codec, here, given.lost)
-        with open(given.input, "rb") as source, open(given.output, "wb") as back:
-            for time, frame in enumerate(access_units(codec, source.read())):
-                lost += sender.send(frame, time * 3000)
-                for datagram in waiting(there):
-                    packets += 1
-                    back.write(receive(receiver, datagram))
-    print(f"{packets} packets, {lost} lost")
-
-
-def waiting(there: socket.socket) -> Iterator[bytes]:
-    """The datagrams that wait."""
-    while True:
-        try:
-            yield there.recv(65536)
-        except BlockingIOError:
-            return
+    codec, (here, there) = Codec[given.codec], connected()
+    sender, config = Sender(codec, here, given.lost), AccessUnitConfig(max_wait=MAX_WAIT)
+    receiver = RtpReceiver(codec, RtpPayloadTypes(96, rtx=97), config)
+    with open(given.input, "rb") as source, open(given.output, "wb") as back:
+        frames, now = list(access_units(codec, source.read())), 0
+        for n in range(len(frames) + MAX_WAIT // EACH_FRAME):
+            if n < len(frames):
+                # A stream's first packet tells where it begins, and its last one that others are missing.
+                sender.send(frames[n], n * 3000, given.lost if 0 < n < len(frames) - 1 else 0)
+            back.write(receive(receiver, there, now))
+            sender.answer()
+            now += EACH_FRAME
+        receiver.finish()
+        back.write(b"".join(unit.data for unit in receiver.units(now)))
+    sent, again = sender.rtp.sent(), sender.rtp.resent()
+    print(f"{sent.packets} packets, {sender.missed} lost, {again.packets} sent again")
 
 
 if __name__ == "__main__":

@@ -21,6 +21,7 @@ from h26x import (
     OutOfRange,
     Pushed,
     RtpPacket,
+    UnitsSoFar,
     UnknownCodec,
 )
 from rfc import annex_b, is_key
@@ -126,6 +127,28 @@ def test_packets_missing_late_and_twice(codec: Codec) -> None:
     gives(receiver, 204, *two)
     pushes(receiver, 205, (4, 9000, True, slice_), LATE, 3)
     assert receiver.counts() == Counts(taken=7, lost=2, late=1, twice=2, units=5, whole=2)
+
+
+def test_units_before_their_access_unit_has_ended(codec: Codec) -> None:
+    """A unit is shown with its last fragment, and once its access unit has ended that is given out first."""
+    receiver, (start, middle, end, whole) = AccessUnitReceiver(codec, AccessUnitConfig()), FRAGMENTS[codec]
+    later = LATER[codec]
+    assert receiver.units_so_far() is None
+    for number, fragment in ((7, start), (8, middle)):
+        pushes(receiver, 0, (number, 3000, False, fragment))
+        gives(receiver, 0)
+        assert receiver.units_so_far() == UnitsSoFar(3000, b"", None)
+    pushes(receiver, 0, (9, 3000, False, end))
+    assert receiver.units_so_far() == UnitsSoFar(3000, annex_b([whole]), True)
+    assert receiver.units_so_far(10) == UnitsSoFar(3000, annex_b([whole])[10:], True)
+    assert receiver.units_so_far(99) == UnitsSoFar(3000, b"", True)
+    pushes(receiver, 0, (10, 3000, True, later))
+    assert receiver.units_so_far() is None
+    unit = receiver.next(0)
+    assert unit is not None and unit.data == annex_b([whole, later])
+    assert receiver.units_so_far() is None
+    with pytest.raises(ValueError):
+        receiver.units_so_far(-1)
 
 
 def test_settings_that_change(codec: Codec) -> None:

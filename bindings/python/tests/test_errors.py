@@ -84,6 +84,9 @@ CODES = {
     71: h26x.SdpRuleAspectRatios,
     72: h26x.SdpRuleInBandSets,
     73: h26x.SdpRuleHashTypes,
+    74: h26x.SdpNoLevelSets,
+    75: h26x.RtpNoElement,
+    76: h26x.RtpElementPastTheEnd,
 }
 
 

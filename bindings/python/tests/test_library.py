@@ -37,6 +37,7 @@ TYPES: Dict[str, Any] = {
     "const char *": c_char_p,
     "const uint8_t *": c_char_p,
     "const uint16_t *": c_char_p,
+    "const size_t *": c_char_p,
     "const h26x_rtp_payload *": c_char_p,
     "uint8_t *": _library._BYTE,
     "uint16_t *": _library._SHORT,
@@ -50,12 +51,14 @@ TYPES: Dict[str, Any] = {
     "h26x_access_unit *": _library._UNIT,
     "h26x_access_units_counts *": _library._COUNTS,
     "h26x_constraints *": _library._SAID,
+    "h26x_sdp_stream *": _library._AGREED,
     "h26x_rtx_format *": _library._RTX,
     "const h26x_rtx_format *": _library._RTX,
     "h26x_refusal": _library.Refusal,
     "h26x_rtp_header": _library.RtpFields,
     "const h26x_rtp_header *": _library._FIELDS,
     "h26x_rtp_packet *": _library._PLACES,
+    "h26x_rtp_element *": _library._ELEMENT,
     "const h26x_report *": _library._REPORT,
     "h26x_report *": _library._REPORT,
     "h26x_rtp_statistics *": _library._STATISTICS,
@@ -63,11 +66,15 @@ TYPES: Dict[str, Any] = {
     "const h26x_rtp_sources *": _library._SOURCES,
     "h26x_rtp_sources *": _library._SOURCES,
     "h26x_rtp_told *": _library._DATAGRAM,
+    "const h26x_rtp_streams *": _library._STREAMS,
+    "h26x_rtp_streams *": _library._STREAMS,
+    "h26x_rtp_sent *": _library._SENT,
+    "h26x_so_far *": _library._SO_FAR,
 }
 
 #: A pointer to one number, or to as many as there is room for: told apart by the name.
 ROOMS = dict.fromkeys(
-    ("to", "ends", "numbers", "points", "name_to", "value_to", "told"), c_void_p
+    ("to", "ends", "numbers", "packets", "points", "name_to", "value_to", "told", "blocks"), c_void_p
 )
 
 #: The structs of the header that are more than a handle.
@@ -79,6 +86,7 @@ STRUCTS: Dict[str, Any] = {
     "h26x_access_unit": _library.UnitTold,
     "h26x_access_units_counts": _library.UnitsCounts,
     "h26x_constraints": _library.ConstraintsSaid,
+    "h26x_sdp_stream": _library.StreamNumbers,
     "h26x_rtx_format": _library.RtxNumbers,
     "h26x_capability_point": _library.PointNumbers,
     "h26x_rtp_payload": _library.RtpPayload,
@@ -86,11 +94,16 @@ STRUCTS: Dict[str, Any] = {
     "h26x_receive_told": _library.ReceiveTold,
     "h26x_rtp_header": _library.RtpFields,
     "h26x_rtp_packet": _library.RtpPlaces,
+    "h26x_rtp_element": _library.ElementPlace,
+    "h26x_red_block": _library.BlockPlace,
     "h26x_report": _library.ReportGiven,
     "h26x_rtp_statistics": _library.StatisticsKept,
     "h26x_rtp_payload_types": _library.PayloadTypesGiven,
     "h26x_rtp_sources": _library.SourcesGiven,
     "h26x_rtp_told": _library.DatagramTold,
+    "h26x_so_far": _library.SoFarTold,
+    "h26x_rtp_streams": _library.StreamsGiven,
+    "h26x_rtp_sent": _library.SentTold,
 }
 
 HANDLES = (
@@ -99,6 +112,7 @@ HANDLES = (
     "h26x_receiver",
     "h26x_access_units",
     "h26x_rtp_receiver",
+    "h26x_rtp_sender",
     "h26x_sdp",
 )
 
@@ -108,7 +122,7 @@ def ctype(declared: str, name: str) -> Any:
     if re.sub("^const | \\*$", "", declared) in HANDLES:
         return _library._HANDLE if declared.endswith("*") else _library.Handle
     several = ("uint8_t *", "uint16_t *", "size_t *", "h26x_capability_point *")
-    told = ("h26x_push_told *", "h26x_receive_told *")
+    told = ("h26x_push_told *", "h26x_receive_told *", "h26x_red_block *")
     if declared in several + told and name in ROOMS:
         return ROOMS[name]
     return TYPES[declared]

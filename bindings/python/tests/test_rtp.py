@@ -2,7 +2,7 @@
 2198, 3, RFC 4585, 6.1 and 6.2.1, and RFC 5104, 4.3.1; and what is counted of a source by RFC 3550, A.1, A.3 and A.8."""
 
 import copy
-from typing import Any, Callable, Dict, List, Type
+from typing import Any, Callable, Dict, List, Optional, Type
 
 import pytest
 from digits import some
@@ -17,12 +17,15 @@ from h26x import (
     Packetizer,
     PictureLoss,
     ReceiverReport,
+    RedBlock,
     RedBlocksPastTheEnd,
     RedHeadersPastTheEnd,
     ReportBlock,
     RtpCsrcs,
     RtpCsrcsPastTheEnd,
     RtpDatagram,
+    RtpElement,
+    RtpElementPastTheEnd,
     RtpExtension,
     RtpExtensionPastTheEnd,
     RtpHeader,
@@ -35,6 +38,7 @@ from h26x import (
     RtpTooShort,
     RtxNoOriginal,
     is_rtcp,
+    red_blocks,
     red_primary,
     rtcp_packets,
     write_rtx,
@@ -176,6 +180,47 @@ def test_redundant_payloads() -> None:
             red_primary(some(payload))
     with pytest.raises(RedBlocksPastTheEnd):
         red_primary(some("87028002 05 aa"))
+
+
+def test_redundant_blocks() -> None:
+    assert red_blocks(some("60 65")) == []
+    assert red_blocks(some("87028002 05 aabb cc")) == [RedBlock(7, 160, b"\xaa\xbb")]
+    assert red_blocks(some("80000000 fffffc00 00")) == [RedBlock(0, 0, b""), RedBlock(127, 16383, b"")]
+    two = [RedBlock(7, 160, b"\xaa\xbb"), RedBlock(127, 0, b"\xdd")]
+    assert red_blocks(some("87028002 ff000001 7f aabb dd ee")) == two
+    with pytest.raises(RedHeadersPastTheEnd):
+        red_blocks(b"")
+    with pytest.raises(RedBlocksPastTheEnd):
+        red_blocks(some("87028002 05 aa"))
+
+
+ONE = RtpElement(1, b"\xaa")
+
+
+@pytest.mark.parametrize(
+    "profile, digits, wanted",
+    [
+        (0xBEDE, "10aa 21bbcc 0000 30dd", [ONE, RtpElement(2, b"\xbb\xcc"), RtpElement(3, b"\xdd")]),
+        (0x1000, "0100 0201bb 00", [RtpElement(1, b""), RtpElement(2, b"\xbb")]),
+        (0x100F, "0f01aa ff00", [RtpElement(15, b"\xaa"), RtpElement(255, b"")]),
+        (0xBEDE, "", []),
+        (0xBEDE, "10aa f000 20bb", [ONE]),
+        (0xBEDE, "10aa 01aabb 10cc", [ONE]),
+        (0x1010, "10aa", []),
+        (None, "10aa", []),
+    ],
+)
+def test_elements(profile: Optional[int], digits: str, wanted: List[RtpElement]) -> None:
+    header = RtpHeader(96, 7, 0, 1, profile=profile, extension=some(digits))
+    assert list(header.elements()) == wanted
+
+
+@pytest.mark.parametrize("profile, digits", [(0xBEDE, "10aa 11aa"), (0x1000, "0101aa 1102aa"), (0x1000, "0101aa11")])
+def test_elements_past_the_end(profile: int, digits: str) -> None:
+    elements = RtpHeader(96, 7, 0, 1, profile=profile, extension=some(digits)).elements()
+    assert next(elements) == ONE
+    with pytest.raises(RtpElementPastTheEnd):
+        next(elements)
 
 
 def test_rtcp_by_its_second_byte() -> None:

@@ -1,11 +1,20 @@
 """Lines of SDP as text: `bindings/streams/sdp.txt`, which says how it is written."""
 
 from pathlib import Path
-from typing import Callable, Dict, Optional, Type
+from typing import Callable, Dict, List, Optional, Tuple, Type
 
 import h26x
 import pytest
-from h26x import Codec, FormatParameters, RepairFormat, RepairMap, RtxFormat
+from h26x import (
+    AgreedSets,
+    AgreedStream,
+    Codec,
+    Direction,
+    FormatParameters,
+    RepairFormat,
+    RepairMap,
+    RtxFormat,
+)
 
 TEXT = Path(__file__).parents[2] / "streams" / "sdp.txt"
 ROWS = [row for row in TEXT.read_text(encoding="utf-8").splitlines() if row[0] != "#"]
@@ -101,11 +110,102 @@ def retransmitted(line: str, *wanted: str) -> None:
     assert (str(it.payload_type), time, str(it)) == wanted
 
 
+DIRECTIONS = {
+    "both": Direction.SENDRECV,
+    "sends": Direction.SENDONLY,
+    "receives": Direction.RECVONLY,
+}
+
+
+def options_of(words: str) -> Tuple[Direction, Dict[str, bool]]:
+    """The direction, and the options that the words of a row say."""
+    way, *others = words.split()
+    assert set(others) <= {"webrtc", "multicast", "any-order"}
+    return DIRECTIONS[way], {word.replace("-", "_"): True for word in others}
+
+
+def stream_of(it: Optional[AgreedStream]) -> str:
+    """A stream as a row has it."""
+    if it is None:
+        return "-"
+    mode = "-" if it.mode is None else it.mode
+    return f"{it.level} {mode} {it.sets.name.lower().replace('_', '-')}"
+
+
+def agreed(codec: str, how: str, own: str, other: str, *wanted: str) -> None:
+    """What is agreed, of either end."""
+    ours, theirs = (FormatParameters.read(CODECS[codec], line) for line in (own, other))
+    way, options = options_of(how)
+    assert tuple(map(stream_of, ours.agreed(theirs, direction=way, **options))) == wanted
+    # Who sends to an end that receives alone sends alone.
+    turned = Direction((3 - way) % 3)
+    assert tuple(map(stream_of, theirs.agreed(ours, direction=turned, **options))) == wanted[::-1]
+
+
+def declared(codec: str, how: str, said: str, own: str, wanted: str) -> None:
+    """Whether a declared format is received."""
+    stream, ours = (FormatParameters.read(CODECS[codec], line) for line in (said, own))
+    assert ours.accepts_declared(stream, **options_of(how)[1]) == {"yes": True, "no": False}[wanted]
+
+
+#: Why there are no sets of a level.
+FAULTS: Dict[Type[Exception], str] = {
+    h26x.SdpNotHexadecimal: "not hexadecimal",
+    h26x.SdpNoLevelSets: "no sets",
+    h26x.SdpNotBase64: "no base64",
+    h26x.SdpEmptyUnit: "empty unit",
+    h26x.SdpOtherType: "other type",
+    h26x.SdpStartCode: "start code",
+}
+
+
+def sets_of_level(codec: str, line: str, level: str, wanted: str) -> None:
+    """The sets of a level, which are what sprop-parameter-sets says them to be."""
+    it, name = FormatParameters.read(CODECS[codec], line), "sprop-parameter-sets"
+    if wanted == "! codec":
+        with pytest.raises(h26x.NotOfThisCodec):
+            it.sets_of_level(int(level))
+    elif wanted.startswith("! "):
+        with pytest.raises(h26x.LevelSetsError) as told:
+            it.sets_of_level(int(level))
+        assert f"! {FAULTS[type(told.value.__cause__)]} {told.value.place}" == wanted
+    else:
+        texts = "" if wanted == "-" else f"{name}={wanted}"
+        assert it.sets_of_level(int(level)) == FormatParameters.read(Codec.H264, texts).units(name)
+
+
+def test_nothing_is_agreed() -> None:
+    """Of two codecs, nor by what is closed."""
+    own = FormatParameters.read(Codec.H264, "profile-level-id=42e01f")
+    other = FormatParameters.read(Codec.H265, "level-id=93")
+    with pytest.raises(h26x.SdpNoAnswer):
+        own.agreed(other)
+    assert not own.accepts_declared(other)
+    assert own.agreed(own).sends == AgreedStream(62, 0, AgreedSets.IN_BAND)
+    for level in (-1, 1 << 64):
+        with pytest.raises(ValueError):
+            own.sets_of_level(level)
+    other.close()
+    calls: List[Callable[[], object]] = [
+        lambda: other.agreed(own),
+        lambda: own.agreed(other),
+        lambda: other.accepts_declared(own),
+        lambda: own.accepts_declared(other),
+        lambda: other.sets_of_level(93),
+    ]
+    for call in calls:
+        with pytest.raises(ValueError, match="closed"):
+            call()
+
+
 KINDS: Dict[str, Callable[..., None]] = {
     "set": changed,
     "drop": changed,
     "rule": broken,
     "ways": directed,
+    "agree": agreed,
+    "declared": declared,
+    "level": sets_of_level,
     "map": mapped,
     "rtx": retransmitted,
 }

@@ -3,8 +3,8 @@
 A Packetizer cuts encoded video into RTP payloads within a limit. A Depacketizer puts the units
 together again, a Receiver does where packets come with their sequence numbers and some may be missing,
 and an AccessUnitReceiver gives out access units of packets that come in any order; an RtpReceiver does of whole
-datagrams. RTP's own header, RTX and some of RTCP are read and written, and RED is read (RtpDatagram, RtpHeader).
-FormatParameters are those of SDP, read and answered.
+datagrams, which an RtpSender makes. RTP's own header, RTX and some of RTCP are read and written, and RED is
+read (RtpDatagram, RtpHeader). FormatParameters are those of SDP, read and answered.
 
 >>> frame = bytes.fromhex("00000001 6742c01f 00000001 68ce 00000001 658884")  # SPS, PPS, IDR slice
 >>> with Packetizer(Codec.H264) as packetizer:
@@ -37,6 +37,7 @@ from .access_unit_receiver import (
     NackTimes,
     Pushed,
     RtpPacket,
+    UnitsSoFar,
 )
 from .codec import Codec
 from .depacketizer import Depacketized, Depacketizer
@@ -62,10 +63,12 @@ from .errors import (
     RedHeadersPastTheEnd,
     RtpCsrcs,
     RtpCsrcsPastTheEnd,
+    RtpElementPastTheEnd,
     RtpError,
     RtpExtension,
     RtpExtensionPastTheEnd,
     RtpMapError,
+    RtpNoElement,
     RtpOtherVersion,
     RtpPadding,
     RtpPaddingOfZero,
@@ -84,6 +87,7 @@ from .errors import (
     SdpNoAnswer,
     SdpNoApt,
     SdpNoBraces,
+    SdpNoLevelSets,
     SdpNoLimit,
     SdpNoProfile,
     SdpNoSet,
@@ -165,9 +169,22 @@ from .rtcp import (
     RtpStatistics,
     rtcp_packets,
 )
-from .rtp import RtpDatagram, RtpHeader, is_rtcp, red_primary, write_rtx
+from .rtp import (
+    RedBlock,
+    RtpDatagram,
+    RtpElement,
+    RtpHeader,
+    is_rtcp,
+    red_blocks,
+    red_primary,
+    write_rtx,
+)
 from .rtp_receiver import NoMedia, RtpBecame, RtpPayloadTypes, RtpReceiver, RtpSources, RtpTold
+from .rtp_sender import RtpSender, RtpSent, RtpStream
 from .sdp import (
+    Agreed,
+    AgreedSets,
+    AgreedStream,
     CapabilityPoint,
     Constraints,
     Direction,
@@ -201,6 +218,9 @@ __all__ = [
     "AccessUnit",
     "AccessUnitConfig",
     "AccessUnitReceiver",
+    "Agreed",
+    "AgreedSets",
+    "AgreedStream",
     "AvcUnitTooLong",
     "BrokenRule",
     "CLOCK_RATE",
@@ -254,6 +274,7 @@ __all__ = [
     "Received",
     "Receiver",
     "ReceiverReport",
+    "RedBlock",
     "RedBlocksPastTheEnd",
     "RedError",
     "RedHeadersPastTheEnd",
@@ -264,12 +285,15 @@ __all__ = [
     "RtpCsrcs",
     "RtpCsrcsPastTheEnd",
     "RtpDatagram",
+    "RtpElement",
+    "RtpElementPastTheEnd",
     "RtpError",
     "RtpExtension",
     "RtpExtensionPastTheEnd",
     "RtpHeader",
     "RtpMap",
     "RtpMapError",
+    "RtpNoElement",
     "RtpOtherVersion",
     "RtpPacket",
     "RtpPadding",
@@ -278,8 +302,11 @@ __all__ = [
     "RtpPayloadType",
     "RtpPayloadTypes",
     "RtpReceiver",
+    "RtpSender",
+    "RtpSent",
     "RtpSources",
     "RtpStatistics",
+    "RtpStream",
     "RtpTold",
     "RtpTooShort",
     "RtpWriteError",
@@ -295,6 +322,7 @@ __all__ = [
     "SdpNoAnswer",
     "SdpNoApt",
     "SdpNoBraces",
+    "SdpNoLevelSets",
     "SdpNoLimit",
     "SdpNoProfile",
     "SdpNoSet",
@@ -335,6 +363,7 @@ __all__ = [
     "UnitTooLong",
     "UnitWithoutHeader",
     "UnitsError",
+    "UnitsSoFar",
     "UnknownCodec",
     "WrongEnd",
     "begins_keyframe",
@@ -351,6 +380,7 @@ __all__ = [
     "origin",
     "out_size_hint",
     "paci_packet",
+    "red_blocks",
     "red_primary",
     "rtcp_packets",
     "set_lowest_header",

@@ -25,8 +25,8 @@ MAJOR, MINOR = 0, 3
 
 
 class Handle(Structure):
-    """A packetizer, a depacketizer, a receiver of either kind or format parameters: each is a struct of one
-    pointer."""
+    """A packetizer, a depacketizer, a receiver of any kind, a sender or format parameters: each is a struct of
+    one pointer."""
 
     _fields_ = [("at", c_void_p)]
 
@@ -90,6 +90,16 @@ class UnitTold(Structure):
     ]
 
 
+class SoFarTold(Structure):
+    """What is told of an access unit that is open."""
+
+    _fields_ = [
+        ("len", c_size_t),
+        ("timestamp", c_uint32),
+        ("extra", c_uint8),
+    ]
+
+
 class UnitsCounts(Structure):
     """What a receiver of access units counts."""
 
@@ -124,6 +134,18 @@ class ConstraintsSaid(Structure):
         ("frame_only", c_bool),
         ("multilayer", c_bool),
         ("general", c_bool),
+    ]
+
+
+class StreamNumbers(Structure):
+    """A stream that is agreed on."""
+
+    _fields_ = [
+        ("level", c_uint64),
+        ("mode", c_uint64),
+        ("sets", c_uint32),
+        ("is_there", c_bool),
+        ("has_mode", c_bool),
     ]
 
 
@@ -214,6 +236,23 @@ class RtpPlaces(Structure):
     ]
 
 
+class ElementPlace(Structure):
+    """Where an element of a header extension is."""
+
+    _fields_ = [("begin", c_size_t), ("len", c_size_t), ("id", c_uint8)]
+
+
+class BlockPlace(Structure):
+    """Where a block before the primary one of a redundant payload is."""
+
+    _fields_ = [
+        ("begin", c_size_t),
+        ("len", c_size_t),
+        ("timestamp_offset", c_uint16),
+        ("payload_type", c_uint8),
+    ]
+
+
 class ReportGiven(Structure):
     """What a receiver reports of a source."""
 
@@ -275,6 +314,26 @@ class SourcesGiven(Structure):
     ]
 
 
+class StreamsGiven(Structure):
+    """The streams of a sender."""
+
+    _fields_ = [
+        ("ssrc", c_uint32),
+        ("rtx_ssrc", c_uint32),
+        ("sequence", c_uint16),
+        ("rtx_sequence", c_uint16),
+        ("payload_type", c_uint8),
+        ("rtx_payload_type", c_uint8),
+        ("has_rtx", c_bool),
+    ]
+
+
+class SentTold(Structure):
+    """What was sent."""
+
+    _fields_ = [(name, c_uint64) for name in ("packets", "bytes", "rtx_packets", "rtx_bytes")]
+
+
 class DatagramTold(Structure):
     """What became of a datagram."""
 
@@ -301,15 +360,20 @@ _SHOWN = POINTER(ShownPacket)
 _CONFIG = POINTER(UnitsConfig)
 _TIMES = POINTER(NackTimesGiven)
 _UNIT = POINTER(UnitTold)
+_SO_FAR = POINTER(SoFarTold)
 _COUNTS = POINTER(UnitsCounts)
 _SAID = POINTER(ConstraintsSaid)
+_AGREED = POINTER(StreamNumbers)
 _RTX = POINTER(RtxNumbers)
 _FIELDS = POINTER(RtpFields)
 _PLACES = POINTER(RtpPlaces)
+_ELEMENT = POINTER(ElementPlace)
 _REPORT = POINTER(ReportGiven)
 _STATISTICS = POINTER(StatisticsKept)
 _TYPES = POINTER(PayloadTypesGiven)
 _SOURCES = POINTER(SourcesGiven)
+_STREAMS = POINTER(StreamsGiven)
+_SENT = POINTER(SentTold)
 _DATAGRAM = POINTER(DatagramTold)
 # Bytes that a call reads are a `bytes` object, which nobody changes meanwhile. Those that it writes
 # are an address.
@@ -386,6 +450,7 @@ CALLS: Dict[str, Tuple[Any, List[Any]]] = {
     "access_units_skip": (c_uint32, [_HANDLE, c_uint32, c_uint16, _WORD, _SHORT]),
     "access_units_push_all": (c_uint32, [_HANDLE, c_uint32, *_IN, *_IN, *_OUT, _SIZE]),
     "access_units_next": (c_uint32, [_HANDLE, c_uint32, *_OUT, _UNIT]),
+    "access_units_so_far": (c_bool, [_HANDLE, c_size_t, *_OUT, _SO_FAR]),
     "access_units_deadline": (c_bool, [_HANDLE, _WORD]),
     "access_units_missing": (c_uint32, [_HANDLE, *_OUT, _SIZE]),
     "access_units_nacks": (c_uint32, [_HANDLE, c_uint32, _TIMES, *_OUT, _SIZE]),
@@ -410,11 +475,13 @@ CALLS: Dict[str, Tuple[Any, List[Any]]] = {
     "h266_is_known": _IS_KNOWN,
     "is_rtcp": (c_bool, [*_IN]),
     "rtp_read": (c_uint32, [*_IN, _PLACES]),
+    "rtp_element_next": (c_uint32, [c_uint16, *_IN, c_size_t, _ELEMENT]),
     "rtp_original": (c_uint32, [*_IN, c_uint8, c_uint32, _PLACES]),
     "rtp_write": (c_uint32, [_FIELDS, *_IN, *_IN, *_IN, *_IN, *_OUT, _SIZE]),
     "rtp_write_before": (c_uint32, [_FIELDS, *_IN, *_IN, c_bool, c_size_t, *_OUT, _SIZE]),
     "rtx_write": (c_uint32, [*_IN, c_uint8, c_uint16, c_uint32, *_OUT, _SIZE]),
     "red_primary": (c_uint32, [*_IN, _BYTE, _SIZE]),
+    "red_blocks": (c_uint32, [*_IN, *_OUT, _SIZE]),
     "pli_write": (c_uint32, [c_uint32, c_uint32, *_OUT, _SIZE]),
     "pli_read": (c_bool, [*_IN, _WORD, _WORD]),
     "fir_write": (c_uint32, [c_uint32, c_uint32, c_uint8, *_OUT, _SIZE]),
@@ -434,6 +501,7 @@ CALLS: Dict[str, Tuple[Any, List[Any]]] = {
     "rtp_receiver_sources": (c_uint32, [_HANDLE, _SOURCES]),
     "rtp_receiver_push": (c_uint32, [_HANDLE, c_uint32, c_uint32, *_IN, _DATAGRAM]),
     "rtp_receiver_next": (c_uint32, [_HANDLE, c_uint32, *_OUT, _UNIT]),
+    "rtp_receiver_so_far": (c_bool, [_HANDLE, c_size_t, *_OUT, _SO_FAR]),
     "rtp_receiver_deadline": (c_bool, [_HANDLE, _WORD]),
     "rtp_receiver_nacks": (c_uint32, [_HANDLE, c_uint32, _TIMES, *_OUT, _SIZE]),
     "rtp_receiver_keyframe_wanted": (c_bool, [_HANDLE, c_uint32, c_uint32]),
@@ -441,6 +509,15 @@ CALLS: Dict[str, Tuple[Any, List[Any]]] = {
     "rtp_receiver_report": (c_bool, [_HANDLE, c_uint32, c_uint32, _REPORT]),
     "rtp_receiver_finish": _DO,
     "rtp_receiver_count": (c_uint32, [_HANDLE, _COUNTS]),
+    "rtp_sender_new": (c_uint32, [_STREAMS, c_size_t, _HANDLE]),
+    "rtp_sender_free": _FREE,
+    "rtp_sender_send": (
+        c_uint32,
+        [_HANDLE, c_uint32, c_uint16, *_IN, c_size_t, *_OUT, *_IN, _SIZE],
+    ),
+    "rtp_sender_resend": (c_uint32, [_HANDLE, c_uint16, *_OUT, _SIZE]),
+    "rtp_sender_streams": (c_uint32, [_HANDLE, _STREAMS]),
+    "rtp_sender_count": (c_uint32, [_HANDLE, _SENT]),
     "sdp_read": (c_uint32, [c_uint32, *_IN, _HANDLE, _WHY]),
     "sdp_of_payload": (c_uint32, [c_uint32, *_IN, _HANDLE]),
     "sdp_answer": (c_uint32, [_HANDLE, _HANDLE, _HANDLE]),
@@ -449,6 +526,9 @@ CALLS: Dict[str, Tuple[Any, List[Any]]] = {
     "sdp_answer_with": (c_uint32, [_HANDLE, _HANDLE, c_uint32, _HANDLE]),
     "sdp_broken_rule": (c_uint32, [_HANDLE, c_uint32, _WHY]),
     "sdp_name": (c_uint32, [_HANDLE, c_size_t, *_OUT, _SIZE]),
+    "sdp_agreed": (c_uint32, [_HANDLE, _HANDLE, c_uint32, _AGREED, _AGREED]),
+    "sdp_accepts_declared": (c_uint32, [_HANDLE, _HANDLE, c_uint32]),
+    "sdp_level_unit": (c_uint32, [_HANDLE, c_uint64, c_size_t, *_OUT, _SIZE, _WHY]),
     "sdp_free": _FREE,
     "sdp_codec": (c_uint32, [_HANDLE]),
     "sdp_write": (c_uint32, [_HANDLE, *_OUT, _SIZE]),

@@ -9,7 +9,16 @@ from enum import IntEnum
 from typing import Any, Callable, Iterable, Iterator, List, NamedTuple, NoReturn, Optional, Tuple
 
 from ._handle import Owner
-from ._library import Handle, NackTimesGiven, PushTold, UnitsConfig, UnitsCounts, UnitTold, library
+from ._library import (
+    Handle,
+    NackTimesGiven,
+    PushTold,
+    SoFarTold,
+    UnitsConfig,
+    UnitsCounts,
+    UnitTold,
+    library,
+)
 from ._many import laid
 from ._memory import Buffer, Room, as_bytes, number
 from .codec import Codec, codec_of
@@ -186,12 +195,24 @@ def settings(codec: Codec, config: AccessUnitConfig, donl: bool, avc: bool) -> U
     )
 
 
+class UnitsSoFar(NamedTuple):
+    """What came of an access unit that is open."""
+
+    #: The timestamp of its packets.
+    timestamp: int
+    #: Its NAL units that came whole, from the byte on that was asked for, in order.
+    data: bytes
+    #: What is told of the units: `Depacketized.is_keyframe`.
+    is_keyframe: Optional[bool]
+
+
 class GivesUnits(Owner):
     """What gives out access units that have ended."""
 
     #: The calls on such a handle.
     _SET_CONFIG: Callable[..., int]
     _NEXT: Callable[..., int]
+    _SO_FAR: Callable[..., bool]
     _DEADLINE: Callable[..., bool]
     _FINISH: Callable[..., int]
     _COUNT: Callable[..., int]
@@ -255,6 +276,27 @@ class GivesUnits(Owner):
         while (unit := self.next(now)) is not None:
             yield unit
 
+    def units_so_far(self, begin: int = 0) -> Optional[UnitsSoFar]:
+        """The NAL units that came whole so far of the access unit that is open, from byte `begin` on: for who
+        decodes each as soon as it is complete. Later packets put units behind these, until `next` gives all of it,
+        with what is told of the whole. None where nothing is open, or `next` hasn't given out what ended before. A
+        text of more than `unit_limit` bytes is given up.
+        """
+        first = number("begin", begin)
+        with self._lock:
+            told = SoFarTold()
+            if not self._show(first, told):
+                return None
+            self._room.grow(told.len)
+            self._show(first, told)
+            data = self._room.copy(0, told.len)
+        return UnitsSoFar(told.timestamp, data, KEYFRAME[told.extra])
+
+    def _show(self, begin: int, told: SoFarTold) -> bool:
+        """Has what came so far written, for who has the lock."""
+        room = self._room
+        return type(self)._SO_FAR(self._live(), begin, room.address, room.size, byref(told))
+
     def deadline(self) -> Optional[int]:
         """The tick at which to take access units at the latest, if packets wait and there is a
         `max_wait`, or for the packet that begins the stream a `begin_wait`; else None."""
@@ -303,6 +345,7 @@ class AccessUnitReceiver(GivesUnits):
     _FREE = library.h26x_access_units_free
     _SET_CONFIG = library.h26x_access_units_set_config
     _NEXT = library.h26x_access_units_next
+    _SO_FAR = library.h26x_access_units_so_far
     _DEADLINE = library.h26x_access_units_deadline
     _FINISH = library.h26x_access_units_finish
     _COUNT = library.h26x_access_units_count

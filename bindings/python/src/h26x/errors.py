@@ -125,7 +125,7 @@ class NotOfThisCodec(Error, ValueError):
 
 
 class OutOfRange(Error, ValueError):
-    """A largest packet size is under 4, or a window is 0 or over 16384."""
+    """A largest packet size is under 4, a window is 0 or over 16384, or packets don't lie in their memory."""
 
     code = 12
 
@@ -529,6 +529,18 @@ class RedBlocksPastTheEnd(RedError):
     code = 62
 
 
+class RtpNoElement(Error):
+    """No element of a header extension is left. No call here raises it."""
+
+    code = 75
+
+
+class RtpElementPastTheEnd(Error, ValueError):
+    """The length of an element passes the end of the header extension, or isn't there (RFC 8285, 4.2 and 4.3)."""
+
+    code = 76
+
+
 class SdpNoApt(Error, ValueError):
     """A format of retransmission says no payload type that it belongs to (RFC 4588, 8.3)."""
 
@@ -605,6 +617,12 @@ class SdpRuleHashTypes(BrokenRule):
     code = 73
 
 
+class SdpNoLevelSets(Error, ValueError):
+    """A level of `sprop-level-parameter-sets` has no sets. It is the cause of a LevelSetsError."""
+
+    code = 74
+
+
 _ERRORS: Dict[int, Type[Error]] = {
     error.code: error
     for error in (
@@ -679,6 +697,9 @@ _ERRORS: Dict[int, Type[Error]] = {
         SdpRuleAspectRatios,
         SdpRuleInBandSets,
         SdpRuleHashTypes,
+        SdpNoLevelSets,
+        RtpNoElement,
+        RtpElementPastTheEnd,
     )
 }
 

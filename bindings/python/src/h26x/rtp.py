@@ -3,12 +3,12 @@
 from __future__ import annotations
 
 from ctypes import byref, c_size_t, c_uint8
-from typing import NamedTuple, Optional, Tuple, Union
+from typing import Iterator, List, NamedTuple, Optional, Tuple, Union
 
-from ._library import RtpFields, RtpPlaces, library
+from ._library import BlockPlace, ElementPlace, RtpFields, RtpPlaces, library
 from ._memory import Buffer, Room, Target, as_bytes, number
 from .access_unit_receiver import RtpPacket
-from .errors import NoRoom, check
+from .errors import NoRoom, RtpNoElement, check
 
 
 def is_rtcp(datagram: Buffer) -> bool:
@@ -16,6 +16,25 @@ def is_rtcp(datagram: Buffer) -> bool:
     `RtpDatagram.read`."""
     data = as_bytes(datagram)
     return bool(library.h26x_is_rtcp(data, len(data)))
+
+
+class RtpElement(NamedTuple):
+    """An element of a header extension (RFC 8285, 4.1)."""
+
+    #: Its local identifier, whose meaning an a=extmap line of SDP says (RFC 8285, 5).
+    id: int
+    data: bytes
+
+
+def _elements(profile: int, data: bytes) -> Iterator[RtpElement]:
+    begin, it = 0, ElementPlace()
+    while True:
+        code = library.h26x_rtp_element_next(profile, data, len(data), begin, byref(it))
+        if code == RtpNoElement.code:
+            return
+        check(code)
+        begin = it.begin + it.len
+        yield RtpElement(it.id, data[it.begin : begin])
 
 
 class RtpHeader(NamedTuple):
@@ -40,6 +59,18 @@ class RtpHeader(NamedTuple):
     profile: Optional[int] = None
     #: What stands behind the extension's length: whole words of four bytes.
     extension: Buffer = b""
+
+    def elements(self) -> Iterator[RtpElement]:
+        """The elements of its extension, in their order (RFC 8285, 4.2 and 4.3): by the profile those with a header of one
+        byte, which end before an id of 15, or of 0 with a length, or of two; of another profile there are none. Behind
+        those before it, one that passes the end raises RtpElementPastTheEnd.
+
+        >>> list(RtpHeader(96, 7, 0, 1, profile=0xBEDE, extension=bytes.fromhex("10aa0000")).elements())
+        [RtpElement(id=1, data=b'\\xaa')]
+        """
+        if self.profile is None:
+            return iter(())
+        return _elements(number("profile", self.profile, 0xFFFF), as_bytes(self.extension))
 
     def _numbers(self) -> RtpFields:
         """It in numbers. Raises ValueError."""
@@ -170,3 +201,29 @@ def red_primary(payload: Buffer) -> Tuple[int, bytes]:
     data, payload_type, place = as_bytes(payload), c_uint8(), c_size_t()
     check(library.h26x_red_primary(data, len(data), byref(payload_type), byref(place)))
     return payload_type.value, data[place.value :]
+
+
+class RedBlock(NamedTuple):
+    """A block before the primary one of a redundant payload (RFC 2198, 3)."""
+
+    #: That of FEC where it bears no payload of the stream (RFC 5109, 14.2).
+    payload_type: int
+    #: How much earlier than the packet's its timestamp is, below 16384.
+    timestamp_offset: int
+    data: bytes
+
+
+def red_blocks(payload: Buffer) -> List[RedBlock]:
+    """The blocks before the primary one of a redundant payload, in their order (RED; RFC 2198, 3). Raises a RedError.
+
+    >>> red_blocks(bytes.fromhex("87028002 05 aabb cc"))
+    [RedBlock(payload_type=7, timestamp_offset=160, data=b'\\xaa\\xbb')]
+    """
+    data, count = as_bytes(payload), c_size_t()
+    check(library.h26x_red_blocks(data, len(data), None, 0, byref(count)))
+    told = (BlockPlace * count.value)()
+    check(library.h26x_red_blocks(data, len(data), told, count.value, byref(count)))
+    return [
+        RedBlock(it.payload_type, it.timestamp_offset, data[it.begin : it.begin + it.len])
+        for it in told
+    ]

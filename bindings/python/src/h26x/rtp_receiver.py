@@ -156,6 +156,7 @@ class RtpReceiver(GivesUnits):
     _FREE = library.h26x_rtp_receiver_free
     _SET_CONFIG = library.h26x_rtp_receiver_set_config
     _NEXT = library.h26x_rtp_receiver_next
+    _SO_FAR = library.h26x_rtp_receiver_so_far
     _DEADLINE = library.h26x_rtp_receiver_deadline
     _FINISH = library.h26x_rtp_receiver_finish
     _COUNT = library.h26x_rtp_receiver_count

@@ -3,19 +3,21 @@ type in an `a=fmtp` line (RFC 6184, 8; RFC 7798, 7; RFC 9328, 7)."""
 
 from __future__ import annotations
 
-from contextlib import ExitStack
+from contextlib import ExitStack, contextmanager
 from ctypes import byref, c_size_t, c_uint8, c_uint32, c_uint64
 from dataclasses import dataclass
 from enum import Enum, IntEnum
-from typing import Any, List, NamedTuple, NoReturn, Optional, Tuple
+from typing import Any, Iterator, List, NamedTuple, NoReturn, Optional, Tuple
 
 from ._handle import Owner
-from ._library import ConstraintsSaid, Handle, PointNumbers, Refusal, library
+from ._library import ConstraintsSaid, Handle, PointNumbers, Refusal, StreamNumbers, library
 from ._memory import Buffer, Room, as_bytes, number
 from .codec import Codec, codec_of
 from .errors import (
     BrokenRule,
+    Error,
     NoRoom,
+    NotOfThisCodec,
     OutOfMemory,
     SdpAbsent,
     SdpNoAnswer,
@@ -35,6 +37,35 @@ class Direction(IntEnum):
     SENDONLY = 1
     #: `a=recvonly`: it receives alone.
     RECVONLY = 2
+
+
+class AgreedSets(IntEnum):
+    """Where the parameter sets of a stream are (RFC 6184, 8.1)."""
+
+    #: In the stream: who sends it sends them with its units.
+    IN_BAND = 0
+    #: In the sender's format: `units` has them of sprop-parameter-sets, or sprop-vps, sprop-sps and sprop-pps.
+    TOLD = 1
+    #: In its sprop-level-parameter-sets: `sets_of_level` has them, of the stream's level.
+    TOLD_OF_LEVEL = 2
+
+
+class AgreedStream(NamedTuple):
+    """A stream from one end to the other."""
+
+    #: The highest level of it: of H.264 twice level_idc, 21 for level 1b; else as level-id says it.
+    level: int
+    #: packetization-mode of H.264; None of H.265 and H.266.
+    mode: Optional[int]
+    #: Where its parameter sets are.
+    sets: AgreedSets
+
+
+class Agreed(NamedTuple):
+    """What an end sends and receives; None where there is none of it."""
+
+    sends: Optional[AgreedStream]
+    receives: Optional[AgreedStream]
 
 
 class LevelSets(NamedTuple):
@@ -270,6 +301,32 @@ class FormatParameters(Owner):
                 raise LevelSetsError(n) from fault
         return levels
 
+    def sets_of_level(self, level: int) -> List[bytes]:
+        """The parameter sets that sprop-level-parameter-sets of H.264 has for a level, as an AgreedStream says it: of
+        the first there that is of that level; none where there is none. Give them to the decoder before the first
+        picture, each behind 00 00 00 01.
+
+        Raises a LevelSetsError of the first level that is none, whose cause says why; NotOfThisCodec of H.265 and
+        H.266; or OutOfMemory.
+
+        >>> line = "sprop-level-parameter-sets=42e00b:Z0LgCw==,aMs=:42e00d:Z0LgDQ==,aMs="
+        >>> [unit.hex() for unit in FormatParameters.read(Codec.H264, line).sets_of_level(26)]
+        ['6742e00d', '68cb']
+        """
+        why, wanted = Refusal(), number("level", level, 0xFFFFFFFFFFFFFFFF)
+        sets: List[bytes] = []
+        with self._lock:
+            try:
+                call = library.h26x_sdp_level_unit
+                while True:
+                    sets.append(self._written(call, wanted, len(sets), more=(byref(why),)))
+            except SdpAbsent:
+                return sets
+            except (NotOfThisCodec, OutOfMemory):
+                raise
+            except Error as fault:
+                raise LevelSetsError(why.first) from fault
+
     def _written(self, call: Any, *arguments: Any, more: Tuple[Any, ...] = ()) -> bytes:
         """What a call writes, for who has the lock."""
         room, size = self._room, c_size_t()
@@ -391,12 +448,57 @@ class FormatParameters(Owner):
 
     def _answer(self, ours: FormatParameters, made: Handle, options: int) -> int:
         """Has the answer made by one of ours."""
-        with ExitStack() as locks:
-            # In one order, so that two threads that answer by the same two don't wait for each other.
-            for one in [self] if ours is self else sorted((self, ours), key=id):
-                locks.enter_context(one._lock)
+        with _both(self, ours):
             code = library.h26x_sdp_answer_with(self._live(), ours._live(), options, byref(made))
         return int(code)
+
+    def agreed(
+        self,
+        other: FormatParameters,
+        *,
+        any_order: bool = False,
+        webrtc: bool = False,
+        direction: Direction = Direction.SENDRECV,
+        multicast: bool = False,
+    ) -> Agreed:
+        """What an offered format and its answer agree on, of the end that wrote this one, whichever of the two it is.
+        None is what its direction hasn't, and where the formats say no level. What may be said is as of `answer`.
+
+        A receiver starts with the sets of `other`, where these are told: give them to the decoder, and say
+        `has_sets`. Raises SdpNoAnswer of two codecs.
+
+        >>> both = "packetization-mode=1;level-asymmetry-allowed=1;profile-level-id="
+        >>> own, peer = (FormatParameters.read(Codec.H264, both + level) for level in ("42e01f", "42e00d"))
+        >>> sends, receives = own.agreed(peer)
+        >>> sends.level, receives.level, receives.mode, receives.sets.name  # of 13 and 31
+        (26, 62, 1, 'IN_BAND')
+        """
+        told, options = (StreamNumbers(), StreamNumbers()), _options(any_order, webrtc, direction, multicast)
+        with _both(self, other):
+            call, to = library.h26x_sdp_agreed, (byref(told[0]), byref(told[1]))
+            check(call(self._live(), other._live(), options, *to))
+        return Agreed(*map(_stream_of, told))
+
+    def accepts_declared(
+        self, declared: FormatParameters, *, any_order: bool = False, webrtc: bool = False
+    ) -> bool:
+        """Whether this one of our formats receives a declared one as it is, of a description that is no offer, as of
+        RTSP and SAP (RFC 6184, 8.2.3; RFC 7798, 7.2.3; RFC 9328, 7.3.3): what a declared format says is of its
+        stream. False of two codecs. What may be said is as of `answer`.
+
+        >>> camera = FormatParameters.read(Codec.H264, "profile-level-id=42e01f;packetization-mode=1")
+        >>> ours = FormatParameters.read(Codec.H264, "profile-level-id=42e028;packetization-mode=1")
+        >>> ours.accepts_declared(camera), camera.accepts_declared(ours)
+        (True, False)
+        """
+        options = _options(any_order, webrtc)
+        with _both(self, declared):
+            call = library.h26x_sdp_accepts_declared
+            code = call(declared._live(), self._live(), options)
+        if code == SdpNoAnswer.code:
+            return False
+        check(code)
+        return True
 
     def broken_rule(self, any_order: bool = False, webrtc: bool = False) -> Optional[BrokenRule]:
         """The first rule that these parameters break as a format of one's own, which then gives no answer;
@@ -475,6 +577,23 @@ def _options(
 ) -> int:
     """How an end answers, in bits."""
     return int(any_order) | int(webrtc) << 1 | direction << 2 | int(multicast) << 4
+
+
+@contextmanager
+def _both(one: FormatParameters, other: FormatParameters) -> Iterator[None]:
+    """Has the locks of two."""
+    with ExitStack() as locks:
+        # In one order, so that two threads that have the same two don't wait for each other.
+        for each in [one] if other is one else sorted((one, other), key=id):
+            locks.enter_context(each._lock)
+        yield
+
+
+def _stream_of(told: StreamNumbers) -> Optional[AgreedStream]:
+    """A stream of its numbers."""
+    if not told.is_there:
+        return None
+    return AgreedStream(told.level, told.mode if told.has_mode else None, AgreedSets(told.sets))
 
 
 def _point_of(told: PointNumbers) -> CapabilityPoint:
