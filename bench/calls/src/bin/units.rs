@@ -5,6 +5,7 @@
 //! units [TURNS]             prints a line for each case: medians in nanoseconds a packet
 //! units --write FOLDER      writes the packets of each case, as they come, for programs in C and Go
 //! units --count CASE ROUNDS takes the packets of one case so many times by reference, for callgrind
+//! units --datagrams CASE ROUNDS   the same packets as datagrams, by an `RtpReceiver`
 //! ```
 //!
 //! How the packets come into memory of their own isn't in the times.
@@ -13,6 +14,8 @@
 mod network;
 
 use emupedestal::access_unit_receiver::{AccessUnitConfig, AccessUnitReceiver};
+use emupedestal::rtp::{RtpDatagram, RtpHeader};
+use emupedestal::rtp_receiver::{RtpPayloadTypes, RtpReceiver};
 use emupedestal::{Codec, HeldPacket};
 use network::{Network, Random, Sent, bound, each, median, packets_of};
 use std::hint::black_box;
@@ -99,6 +102,44 @@ fn by_value(case: &Case, came: &[&Sent]) -> f64 {
     each(then, came.len())
 }
 
+/// A packet as a datagram of payload type 96 and SSRC 1, with a header of 12 bytes.
+fn datagram(packet: &Sent) -> Vec<u8> {
+    let header = RtpHeader {
+        marker: packet.marker,
+        payload_type: 96,
+        sequence: packet.sequence,
+        timestamp: packet.timestamp,
+        ssrc: 1,
+        csrcs: &[],
+        extension: None,
+    };
+    let datagram = RtpDatagram {
+        header,
+        payload: &packet.payload,
+        padding: &[],
+    };
+    let mut bytes = vec![0; 12 + packet.payload.len()];
+    datagram.write(&mut bytes).unwrap();
+    bytes
+}
+
+fn by_datagrams(case: &Case, came: &[Vec<u8>]) {
+    let types = RtpPayloadTypes {
+        media: 96,
+        rtx: Some(97),
+        red: None,
+        rtx_of_red: None,
+        fec: None,
+    };
+    let mut receiver = RtpReceiver::new(case.codec, types, case.config());
+    for datagram in came {
+        let _ = black_box(receiver.push(0, 0, datagram));
+        while let Ok(Some(unit)) = receiver.next(0) {
+            receiver.give_back(black_box(unit));
+        }
+    }
+}
+
 /// For each packet its number, timestamp, marker and length, the lowest byte first, and its payload.
 fn write(case: &Case, folder: &str) {
     let mut bytes = Vec::new();
@@ -127,12 +168,25 @@ fn time(turns: usize) {
     }
 }
 
+fn case_of(name: &str) -> Case {
+    cases().into_iter().find(|it| it.name() == name).unwrap()
+}
+
 fn count(name: &str, rounds: usize) {
-    let case = cases().into_iter().find(|it| it.name() == name).unwrap();
+    let case = case_of(name);
     let packets = case.packets();
     let came: Vec<&Sent> = packets.iter().collect();
     for _ in 0..rounds {
         by_reference(&case, &came);
+    }
+    println!("{}", came.len());
+}
+
+fn count_datagrams(name: &str, rounds: usize) {
+    let case = case_of(name);
+    let came: Vec<Vec<u8>> = case.packets().iter().map(datagram).collect();
+    for _ in 0..rounds {
+        by_datagrams(&case, &came);
     }
     println!("{}", came.len());
 }
@@ -143,7 +197,8 @@ fn main() {
         [] => time(31),
         ["--write", folder] => cases().iter().for_each(|case| write(case, folder)),
         ["--count", name, rounds] => count(name, rounds.parse().unwrap()),
+        ["--datagrams", name, rounds] => count_datagrams(name, rounds.parse().unwrap()),
         [turns] => time(turns.parse().unwrap()),
-        _ => panic!("units [TURNS], units --write FOLDER, or units --count CASE ROUNDS"),
+        _ => panic!("units [TURNS], or units --write FOLDER, --count or --datagrams CASE ROUNDS"),
     }
 }
