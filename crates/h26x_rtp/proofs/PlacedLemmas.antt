@@ -6,6 +6,7 @@ use Rattle.std.proofs.lemmas.Bool.{cases_Bool}
 use Rattle.std.proofs.lemmas.Bool.Decides.{nat_tests}
 use Rattle.h26x_rtp.specs.declared.elements.ElementForm.{ElementForm}
 use Rattle.h26x_rtp.specs.declared.elements.ElementForm.TheVariants.{OneByte, TwoBytes}
+use Rattle.h26x_rtp.specs.declared.elements.RtpElementError.{RtpElementError}
 use Rattle.h26x_rtp.specs.declared.elements.RtpElementError.TheVariants.{PastTheEnd}
 use Rattle.h26x_rtp.specs.Elements.{ElementParts, ElementFits, element_bytes, PlacedParts, PlacedAnswer, IsFirstPlaced, elements_in, placed_of, placed_at, first_placed}
 use Rattle.h26x_rtp.proofs.ElementLemmas.{long_found, short_found}
@@ -138,3 +139,17 @@ part_refused TwoBytes place (suc zero) it (positive, low, short) some few = behi
 part_refused TwoBytes place (suc (suc size)) it (positive, low, short) some few =
     let l = length-take-le size it.bytes (omega (arith, few)) in
     cut_long place it.id (length it.bytes) (take size it.bytes) positive (omega (arith, l, few))
+
+-- the first of all elements is told by its place, before those behind it
+pub one_told : (form : ElementForm) (bytes : List ℕ) (it : PlacedParts) → first_placed form 0 bytes ≡ Ok (Some it) →
+    elements_in form bytes ≡ it.parts ∷ elements_in form (drop (it.place + length it.parts.bytes) bytes)
+one_told form bytes it is =
+    let end : it.place + length it.parts.bytes - 0 ≡ it.place + length it.parts.bytes = omega arith in
+    (placed_first form 0 bytes it is).first ∙ ap (λ n. it.parts ∷ elements_in form (drop n bytes)) end
+
+-- where none is told, or a refusal, there are no elements
+pub none_told : (form : ElementForm) (bytes : List ℕ) → first_placed form 0 bytes ≡ Ok None → elements_in form bytes ≡ []
+none_told form bytes is = none_placed form 0 bytes (λ it h. (let e = sym is ∙ h in absurd cc))
+
+pub refusal_told : (form : ElementForm) (bytes : List ℕ) (e : RtpElementError) → first_placed form 0 bytes ≡ Err e → elements_in form bytes ≡ []
+refusal_told form bytes e is = none_placed form 0 bytes (λ it h. (let e = sym is ∙ h in absurd cc))

@@ -29,11 +29,15 @@ abbrev pub size_behind : ElementForm → ℕ → List ℕ → ℕ
 size_behind OneByte byte bytes = if byte == 0 then 0 else byte % 16 + 1
 size_behind TwoBytes byte bytes = if byte == 0 then 0 else slice_index bytes 0 + 1
 
+-- whether a first byte ends the elements in the form of one byte: by an id of 15, or of 0 where it is
+-- no padding (RFC 8285, 4.2)
+abbrev pub ends_short : ℕ → Bool
+ends_short byte = (byte / 16 == 0) || (byte / 16 == 15)
+
 -- whether no further element is read: in the form of one byte from id 15 or 0 on, and where one
 -- passes the end (RFC 8285, 4.2)
 abbrev pub ends_elements : ElementForm → ℕ → List ℕ → Bool
-ends_elements OneByte byte bytes = (byte / 16 == 0) || (byte / 16 == 15)
-    || nat_lt (length bytes) (byte % 16 + 1)
+ends_elements OneByte byte bytes = ends_short byte || nat_lt (length bytes) (byte % 16 + 1)
 ends_elements TwoBytes byte bytes = nat_lt (length bytes) (slice_index bytes 0 + 1)
 
 -- the element of a first byte
@@ -108,7 +112,7 @@ placed_of id place size bytes =
 -- elements (RFC 8285, 4.2 and 4.3)
 abbrev pub placed_at : ElementForm → ℕ → ℕ → List ℕ → PlacedAnswer
 placed_at OneByte place byte bytes =
-    if (byte / 16 == 0) || (byte / 16 == 15) then Ok None
+    if ends_short byte then Ok None
     else placed_of (byte / 16) (place + 1) (byte % 16 + 1) bytes
 placed_at TwoBytes place byte [] = Err PastTheEnd
 placed_at TwoBytes place byte (size ∷ bytes) = placed_of byte (place + 2) size bytes

@@ -61,6 +61,14 @@ behind_fixed bytes rest =
       padding = it.1;
     })
 
+-- a packet of a header of 12 bytes, which has no padding
+abbrev pub payload_alone : List ℕ → List ℕ → DatagramParts
+payload_alone bytes rest = record {
+  header = header_at bytes [] None;
+  payload = rest;
+  padding = [];
+}
+
 -- the whole packet
 abbrev pub datagram_of : List ℕ → Result DatagramParts RtpError
 datagram_of bytes =

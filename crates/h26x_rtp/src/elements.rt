@@ -1,8 +1,8 @@
 //! The elements of header extensions (RFC 8285).
 
-ghost use Rattle.std.specs.Prelude.{◌≡◌, ◌==◌, ◌||◌, ◌<◌, ◌≤◌, ◌+◌, ◌/◌, ◌%◌, ◌∷◌, [], MatchOption, length, slice_index, drop};
+ghost use Rattle.std.specs.Prelude.{◌≡◌, ◌<◌, ◌≤◌, ◌+◌, ◌%◌, ◌∷◌, [], MatchOption, length, slice_index, drop};
 ghost use Rattle.h26x_rtp.specs.Elements as spec;
-ghost use Rattle.h26x_rtp.specs.ElementViews.{element_view, IsPlaced};
+ghost use Rattle.h26x_rtp.specs.ElementViews.{element_view, IsPlaced, IsWithin};
 ghost use Rattle.h26x_rtp.specs.Views.{extension_view};
 
 use crate::header::RtpExtension;
@@ -73,19 +73,6 @@ fn form_of(profile: u16) -> Option<ElementForm>
     }
 }
 
-/// Bytes without the padding before them (RFC 8285, 4.1.2).
-fn without_padding(form: ElementForm, bytes: &[u8]) -> &[u8]
-    ensures same { spec.elements_in form bytes.now ≡ spec.elements_in form result.now }
-    ensures first { 0 < length result.now → 0 < slice_index result.now 0 }
-{
-    for (place, byte) in bytes.iter().enumerate() {
-        if *byte != 0 {
-            return &bytes[place..];
-        }
-    }
-    &[]
-}
-
 /// How many bytes an element has in the form of one byte (RFC 8285, 4.2).
 fn short_size(byte: u8) -> usize
     ensures { result ≡ byte % 16 + 1 }
@@ -96,49 +83,9 @@ fn short_size(byte: u8) -> usize
 /// Whether a first byte ends the elements in the form of one byte: by an id of 15, or of 0 where it
 /// is no padding (RFC 8285, 4.2).
 fn ends_short(byte: u8) -> bool
-    ensures { result ≡ ((byte / 16 == 0) || (byte / 16 == 15)) }
+    ensures { result ≡ spec.ends_short byte }
 {
     byte >> 4 == 0 || byte >> 4 == 15
-}
-
-/// The first element in the form of one byte, and what stands behind it.
-fn first_short(bytes: &[u8]) -> Option<(RtpElement<'_>, &[u8])>
-    requires { 0 < length bytes.now → 0 < slice_index bytes.now 0 }
-    ensures { MatchOption result (spec.elements_in ElementForm.OneByte bytes.now ≡ [])
-        (λ it. spec.elements_in ElementForm.OneByte bytes.now
-        ≡ element_view it.0 ∷ spec.elements_in ElementForm.OneByte it.1.now) }
-{
-    if bytes.is_empty() {
-        return None;
-    }
-    let (_, rest) = bytes.split_at(1);
-    let id = bytes[0] >> 4;
-    let size = short_size(bytes[0]);
-    if ends_short(bytes[0]) || rest.len() < size {
-        return None;
-    }
-    let (bytes, rest) = rest.split_at(size);
-    Some((RtpElement { id, bytes }, rest))
-}
-
-/// The first element in the form of two bytes, and what stands behind it.
-fn first_long(bytes: &[u8]) -> Option<(RtpElement<'_>, &[u8])>
-    requires { 0 < length bytes.now → 0 < slice_index bytes.now 0 }
-    ensures { MatchOption result (spec.elements_in ElementForm.TwoBytes bytes.now ≡ [])
-        (λ it. spec.elements_in ElementForm.TwoBytes bytes.now
-        ≡ element_view it.0 ∷ spec.elements_in ElementForm.TwoBytes it.1.now) }
-{
-    if bytes.len() < 2 {
-        return None;
-    }
-    let (_, rest) = bytes.split_at(2);
-    let id = bytes[0];
-    let size = usize::from(bytes[1]);
-    if rest.len() < size {
-        return None;
-    }
-    let (bytes, rest) = rest.split_at(size);
-    Some((RtpElement { id, bytes }, rest))
 }
 
 /// An element of so many bytes at a place.
@@ -149,7 +96,8 @@ fn placed(
     size: usize,
 ) -> Result<Option<PlacedElement<'_>>, RtpElementError>
     requires { place ≤ length bytes.now }
-    ensures { IsPlaced result (spec.placed_of id place size (drop place bytes.now)) }
+    ensures placed { IsPlaced result (spec.placed_of id place size (drop place bytes.now)) }
+    ensures within { IsWithin result bytes.now }
 {
     let (_, rest) = bytes.split_at(place);
     if rest.len() < size {
@@ -169,8 +117,9 @@ fn placed_at(
     place: usize,
 ) -> Result<Option<PlacedElement<'_>>, RtpElementError>
     requires { place < length bytes.now }
-    ensures { IsPlaced result (spec.placed_at form place (slice_index bytes.now place)
+    ensures placed { IsPlaced result (spec.placed_at form place (slice_index bytes.now place)
         (drop (place + 1) bytes.now)) }
+    ensures within { IsWithin result bytes.now }
 {
     let first = bytes[place];
     match form {
@@ -189,7 +138,8 @@ fn first_placed(
     bytes: &[u8],
     from: usize,
 ) -> Result<Option<PlacedElement<'_>>, RtpElementError>
-    ensures { IsPlaced result (spec.first_placed form from (drop from bytes.now)) }
+    ensures placed { IsPlaced result (spec.first_placed form from (drop from bytes.now)) }
+    ensures within { IsWithin result bytes.now }
 {
     let mut place = from;
     while place < bytes.len() {
@@ -199,6 +149,22 @@ fn first_placed(
         place += 1;
     }
     Ok(None)
+}
+
+/// The first element, and what stands behind it.
+fn first_of(form: ElementForm, bytes: &[u8]) -> Option<(RtpElement<'_>, &[u8])>
+    ensures { MatchOption result (spec.elements_in form bytes.now ≡ [])
+        (λ it. spec.elements_in form bytes.now
+        ≡ element_view it.0 ∷ spec.elements_in form it.1.now) }
+{
+    match first_placed(form, bytes, 0) {
+        Ok(Some(it)) => {
+            let (_, rest) = bytes.split_at(it.place + it.element.bytes.len());
+            Some((it.element, rest))
+        }
+        Ok(None) => None,
+        Err(_) => None,
+    }
 }
 
 impl<'a> RtpExtension<'a> {
@@ -250,11 +216,7 @@ impl<'a> Iterator for RtpElements<'a> {
     ghost remaining = { item_count (λ it. it) };
 
     fn next(&mut self) -> Option<RtpElement<'a>> {
-        let bytes = without_padding(self.form, self.rest);
-        let (element, rest) = match self.form {
-            ElementForm::OneByte => first_short(bytes)?,
-            ElementForm::TwoBytes => first_long(bytes)?,
-        };
+        let (element, rest) = first_of(self.form, self.rest)?;
         self.rest = rest;
         Some(element)
     }

@@ -9,10 +9,10 @@ use Rattle.h26x_rtp_receiver.specs.declared.payload_types.RtpPayloadTypes.{RtpPa
 use Rattle.h26x_rtp_receiver.specs.declared.pushed.RtpPushed.{RtpPushed}
 use Rattle.h26x_rtp_receiver.specs.declared.pushed.RtpPushError.{RtpPushError}
 use Rattle.h26x_rtp_receiver.specs.declared.sources.RtpSources.{RtpSources}
-use Rattle.h26x_rtp_receiver.specs.Original.{is_type, resent_type, plain_type, bearing, plain_original, with_payload, there, original_by, original_of}
+use Rattle.h26x_rtp_receiver.specs.Original.{is_type, is_type_of_rtcp, resent_type, plain_type, bearing, plain_original, with_payload, there, original_by, original_of}
 use Rattle.h26x_rtp_receiver.specs.Plain.{is_plain_packet}
 use Rattle.h26x_rtp_receiver.specs.RtpReception.{RtpReception, Told, Brings, other_source, brought_by, brought_original, brought_packet, brings_kept, wants_memory, IsOriginalPush, IsPacketPush}
-use Rattle.h26x_rtp_receiver.specs.Sources.{is_ssrc, told_of, told, bears_missing, sources_by, sources_with}
+use Rattle.h26x_rtp_receiver.specs.Sources.{told_of, told, bears_missing, sources_by, sources_with}
 
 both : (a b : Bool) → (a && b) ≡ true → (a ≡ true) × (b ≡ true)
 both true b h = (refl, h)
@@ -26,13 +26,9 @@ none_of : (x : Option ℕ) → is_some x ≡ false → x ≡ None
 none_of None h = refl
 none_of (Some x) h = absurd cc
 
-this_type : (it : Option ℕ) (n : ℕ) → is_type it n ≡ true → it ≡ Some n
-this_type None n h = absurd cc
-this_type (Some m) n h = let e : m ≡ n = grind (arith, nat_tests, h) in ap (λ k. Some k) e
-
-this_ssrc : (it : Option ℕ) (n : ℕ) → is_ssrc it n ≡ true → it ≡ Some n
-this_ssrc None n h = absurd cc
-this_ssrc (Some m) n h = let e : m ≡ n = grind (arith, nat_tests, h) in ap (λ k. Some k) e
+this_one : (it : Option ℕ) (n : ℕ) → is_type it n ≡ true → it ≡ Some n
+this_one None n h = absurd cc
+this_one (Some m) n h = let e : m ≡ n = grind (arith, nat_tests, h) in ap (λ k. Some k) e
 
 unless_odd : (odd : Bool) (media n : ℕ) → (if odd then None else Some media) ≡ Some n → (odd ≡ false) × (media ≡ n)
 unless_odd true media n h = absurd cc
@@ -42,9 +38,11 @@ unless_odd false media n h = (refl, cc)
 plain_types : (types : RtpPayloadTypes) (n : ℕ) → is_type (plain_type types) n ≡ true →
     (resent_type types n ≡ None) × (is_type types.red n ≡ false) × (types.media ≡ n)
 plain_types types n h =
-    let a = unless_odd (is_some (resent_type types types.media) || is_type types.red types.media) types.media n (this_type (plain_type types) n h) in
-    let b = neither (is_some (resent_type types types.media)) (is_type types.red types.media) a.0 in
-    (ap (resent_type types) (sym a.1) ∙ none_of (resent_type types types.media) b.0, ap (is_type types.red) (sym a.1) ∙ b.1, a.1)
+    let odd = is_some (resent_type types types.media) || is_type types.red types.media in
+    let a = unless_odd (odd || is_type_of_rtcp types.media) types.media n (this_one (plain_type types) n h) in
+    let b = neither odd (is_type_of_rtcp types.media) a.0 in
+    let c = neither (is_some (resent_type types types.media)) (is_type types.red types.media) b.0 in
+    (ap (resent_type types) (sym a.1) ∙ none_of (resent_type types types.media) c.0, ap (is_type types.red) (sym a.1) ∙ c.1, a.1)
 
 plain_payload : (types : RtpPayloadTypes) (n : ℕ) (h : HeaderParts) (payload_type : ℕ) (payload : List ℕ) → is_there payload ≡ true →
     is_type types.red payload_type ≡ false → nat_eq payload_type types.media ≡ true →
@@ -72,9 +70,9 @@ record BringsItself (s : RtpReception) (it : DatagramParts) : Type 0 where
 
 plain_brings : (s : RtpReception) (it : DatagramParts) → is_plain_packet s it ≡ true → BringsItself s it
 plain_brings s it h =
-    let one = both (is_ssrc s.sources.media it.header.ssrc) (is_type (plain_type s.types) it.header.payload_type && is_there it.payload) h in
+    let one = both (is_type s.sources.media it.header.ssrc) (is_type (plain_type s.types) it.header.payload_type && is_there it.payload) h in
     let two = both (is_type (plain_type s.types) it.header.payload_type) (is_there it.payload) one.1 in
-    let is = this_ssrc s.sources.media it.header.ssrc one.0 in
+    let is = this_one s.sources.media it.header.ssrc one.0 in
     let t = plain_told s.types s.sources it is in
     let o = plain_is_original s.types it two.0 two.1 in
     let b : brought_packet s it ≡ Ok (Brings it (plain_original it)) =
@@ -93,8 +91,8 @@ plain_push now arrival s it result new h push =
     rw (is.wants, is.brought) push
 
 -- and the sources stay, by the first of the tests
-pub plain_sources : (sources : RtpSources) (ssrc : ℕ) (rest : Bool) → (is_ssrc sources.media ssrc && rest) ≡ true → sources_with ssrc sources ≡ sources
+pub plain_sources : (sources : RtpSources) (ssrc : ℕ) (rest : Bool) → (is_type sources.media ssrc && rest) ≡ true → sources_with ssrc sources ≡ sources
 plain_sources sources ssrc rest h =
-    let is = this_ssrc sources.media ssrc (both (is_ssrc sources.media ssrc) rest h).0 in
+    let is = this_one sources.media ssrc (both (is_type sources.media ssrc) rest h).0 in
     let same : nat_eq ssrc ssrc ≡ true = grind (arith, nat_tests) in
     ap (sources_by ssrc sources) is ∙ rw same refl

@@ -1,6 +1,6 @@
 -- What an RTP packet brings of its stream: itself, the packet that it sends again (RFC 4588), or its
 -- primary block (RFC 2198).
-use Rattle.std.specs.Prelude.{◌≡◌, ℕ, ◌==◌, nat_lt, Bool, true, false, is_some, ◌||◌, if◌then◌else◌, List, [], ◌∷◌, length, drop, Option, Some, None, Result, Ok, Err, IfSome}
+use Rattle.std.specs.Prelude.{◌≡◌, ℕ, ◌==◌, nat_le, nat_lt, Bool, true, false, is_some, ◌&&◌, ◌||◌, if◌then◌else◌, List, [], ◌∷◌, length, drop, Option, Some, None, Result, Ok, Err, IfSome}
 use Rattle.h26x_reorder.specs.Rtp.{rtp_body}
 use Rattle.h26x_rtp.specs.Datagram.{HeaderParts, DatagramParts}
 use Rattle.h26x_rtp.specs.Words.{word_at}
@@ -11,7 +11,7 @@ use Rattle.h26x_rtp_receiver.specs.declared.original.RtpOriginal.{RtpOriginal}
 use Rattle.h26x_rtp_receiver.specs.declared.original.NoMedia.{NoMedia}
 use Rattle.h26x_rtp_receiver.specs.declared.original.NoMedia.TheVariants.{Padding, Fec, OtherPayloadType}
 
--- whether a payload type is this one
+-- whether a payload type, or an SSRC, is this one
 abbrev pub is_type : Option ℕ → ℕ → Bool
 is_type None payload_type = false
 is_type (Some it) payload_type = it == payload_type
@@ -23,12 +23,23 @@ resent_type types payload_type =
     else if is_type types.rtx_of_red payload_type then types.red
     else None
 
+-- whether packets of a payload type are taken for RTCP where they have the marker (RFC 5761, 4)
+abbrev pub is_type_of_rtcp : ℕ → Bool
+is_type_of_rtcp payload_type = nat_le 64 payload_type && nat_le payload_type 95
+
 -- the payload type whose packets bear the codec's payload by themselves: the codec's, unless it is that
--- of RTX or of RED too
+-- of RTX or of RED too, or they may be taken for RTCP
 abbrev pub plain_type : RtpPayloadTypes → Option ℕ
 plain_type types =
-    if is_some (resent_type types types.media) || is_type types.red types.media then None
+    if (is_some (resent_type types types.media) || is_type types.red types.media)
+    || is_type_of_rtcp types.media
+    then None
     else Some types.media
+
+-- that as a number which is that of no payload type where there is none
+abbrev pub type_number : Option ℕ → ℕ
+type_number None = 256
+type_number (Some it) = it
 
 -- whether a stream may begin with a packet of this one: it is the codec's, or RED
 abbrev pub begins_stream : RtpPayloadTypes → ℕ → Bool

@@ -12,11 +12,6 @@ use Rattle.h26x_rtp_receiver.specs.Original.{resent_type, begins_stream}
 abbrev pub no_sources : RtpSources
 no_sources = record { media = None; rtx = None }
 
--- whether an SSRC is this one
-abbrev pub is_ssrc : Option ℕ → ℕ → Bool
-is_ssrc None ssrc = false
-is_ssrc (Some it) ssrc = it == ssrc
-
 -- whether a packet is of the stream of this SSRC, where the SSRC of its retransmissions may be known:
 -- it has either, or, where it is one of RTX and that isn't known, its SSRC doesn't tell (RFC 4588, 5.3)
 abbrev pub told_of : RtpPayloadTypes → DatagramParts → Option ℕ → Option ℕ → Option Bool

@@ -1,7 +1,9 @@
 //! The payload types of a session that belong to one stream.
 
-ghost use Rattle.std.specs.Prelude.{◌≡◌};
+ghost use Rattle.std.specs.Prelude.{◌≡◌, false, IsTrue};
+ghost use Rattle.h26x_rtp.specs.Rtcp.{is_rtcp_packet};
 ghost use Rattle.h26x_rtp_receiver.specs.Original as spec;
+ghost use Rattle.h26x_rtp_receiver.specs.Plain.{may_be_plain};
 
 use std::marker::Model;
 
@@ -52,7 +54,20 @@ impl RtpPayloadTypes {
         if self.resent_type(self.media).is_some() || self.is_red(self.media) {
             return None;
         }
+        if self.media >= 64 && self.media <= 95 {
+            return None;
+        }
         Some(self.media)
+    }
+
+    /// That as a number which is that of no payload type where there is none.
+    fn plain_number(self) -> u16
+        ensures { result ≡ spec.type_number (spec.plain_type self) }
+    {
+        match self.plain_type() {
+            Some(payload_type) => u16::from(payload_type),
+            None => 256,
+        }
     }
 
     /// Whether it is RED.
@@ -82,20 +97,20 @@ impl RtpPayloadTypes {
 pub(crate) struct StreamTypes {
     /// All of them.
     all: RtpPayloadTypes,
-    /// That whose packets bear the codec's payload by themselves.
-    plain: Option<u8>,
+    /// The number of that whose packets bear the codec's payload by themselves; 256 where none do.
+    plain: u16,
 }
 
 impl Model for StreamTypes {
     ghost use Rattle.std.specs.Prelude.{◌≡◌};
     ghost use Rattle.h26x_rtp_receiver.specs.declared.payload_types.RtpPayloadTypes.{RtpPayloadTypes};
-    ghost use Rattle.h26x_rtp_receiver.specs.Original.{plain_type};
+    ghost use Rattle.h26x_rtp_receiver.specs.Original.{plain_type, type_number};
 
     ghost Value = { RtpPayloadTypes };
 
     ghost view = { λ a. a.all };
 
-    ghost invariant = { λ a. a.plain ≡ plain_type a.all };
+    ghost invariant = { λ a. a.plain ≡ type_number (plain_type a.all) };
 }
 
 impl StreamTypes {
@@ -105,7 +120,7 @@ impl StreamTypes {
     {
         StreamTypes {
             all,
-            plain: all.plain_type(),
+            plain: all.plain_number(),
         }
     }
 
@@ -121,6 +136,16 @@ impl StreamTypes {
     pub(crate) fn is_plain(&self, payload_type: u8) -> bool
         ensures { result ≡ spec.is_type (spec.plain_type self.now) payload_type }
     {
-        is_type(self.plain, payload_type)
+        self.plain == u16::from(payload_type)
+    }
+
+    /// Whether bytes may be a packet of that one: they are no RTCP then, which would have one of 64 to
+    /// 95 there (RFC 5761, 4).
+    #[inline(always)]
+    pub(crate) fn may_be_plain(&self, bytes: &[u8]) -> bool
+        ensures as_defined { result ≡ may_be_plain self.now bytes.now }
+        ensures no_rtcp { IsTrue result → is_rtcp_packet bytes.now ≡ false }
+    {
+        bytes.len() > 12 && self.is_plain(bytes[1] & 0x7f)
     }
 }

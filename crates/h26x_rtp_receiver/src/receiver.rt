@@ -155,7 +155,7 @@ impl<D: RunDepacketizer> RtpReceiver<D> {
         ensures { let r = ⟦<Self as ReceivesRtp>⟧.reception in
             IsRtpPush now arrival (r self.old) datagram.now result (r self.new) }
     {
-        if !is_rtcp(datagram) {
+        if self.types.may_be_plain(datagram) {
             if let Ok(packet) = RtpDatagram::read(datagram) {
                 if self.is_plain(packet) {
                     return self.push_plain(now, arrival, packet);
@@ -333,6 +333,7 @@ impl<D: RunDepacketizer> RtpReceiver<D> {
 
     /// The next access unit, if one has ended at this tick, as of an `AccessUnitReceiver`. Call it
     /// until it gives out none, after each `push`, and at `deadline`.
+    #[inline]
     pub fn next(&mut self, now: u32) -> Result<Option<ReceivedAccessUnit>, PacketError>
         ensures next { let r = ⟦<Self as ReceivesRtp>⟧.reception in
             IfOk result (λ unit. IsRtpNext now (r self.old) (option_map received_unit_value unit)

@@ -3,6 +3,7 @@
 ghost use Rattle.std.specs.Prelude.{◌≡◌, ◌==◌};
 ghost use Rattle.std.specs.List.{list_any};
 ghost use Rattle.h26x_rtp.specs.Views.{datagram_view};
+ghost use Rattle.h26x_rtp_receiver.specs.Original.{is_type};
 ghost use Rattle.h26x_rtp_receiver.specs.Sources as spec;
 
 use crate::payload_types::RtpPayloadTypes;
@@ -54,7 +55,7 @@ impl RtpSources {
     /// Whether an SSRC is known to be that of the stream's packets.
     #[inline(always)]
     pub(crate) fn is_media(self, ssrc: u32) -> bool
-        ensures { result ≡ spec.is_ssrc self.media ssrc }
+        ensures { result ≡ is_type self.media ssrc }
     {
         let Some(media) = self.media else {
             return false;
