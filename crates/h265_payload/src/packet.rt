@@ -85,6 +85,7 @@ impl PacketReader for H265 {
 /// |F|   type    |   layer   | TID |             DONL              | the unit's rest
 /// +-+-+-+-+-+-+-+-+-+-+-+-+-+-+-+-+-+-+-+-+-+-+-+-+-+-+-+-+-+-+-+-+- - - - - - - -
 /// ```
+#[inline(always)]
 fn read_single(has_donl: bool, packet: &[u8]) -> Result<Parts<'_>, PacketError>
     requires long { 3 ≤ length packet.now }
     requires clear { is_set (slice_index packet.now 0) 7 ≡ false }

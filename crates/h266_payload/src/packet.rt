@@ -12,6 +12,7 @@ ghost use Rattle.h266_payload.specs.Packet.{aggregate_units, rest_behind_donl};
 use crate::aggregate::check_aggregate;
 use crate::codec::{H266, header_of, with_type};
 use crate::laws;
+use h26x_core::h266_types::{AGGREGATION_PACKET, FRAGMENTATION_UNIT};
 use h26x_core::{H266FragmentationUnitHeader, PacketError};
 use h26x_depacketizer::{Fragment, PacketReader, Parts, ends_access_unit, may_begin_access_unit};
 
@@ -58,7 +59,7 @@ impl PacketReader for H266 {
     ghost ends = { λ codec marker packet. access_unit.is_last
         (is_two_byte_fragment h266_header packet) marker packet };
 
-    // A type that is neither an aggregate's nor a fragment's is a unit's own.
+    // A type that is neither an aggregate's nor a fragment's is a unit's own, as most are.
     #[inline(always)]
     fn read(self, packet: &[u8]) -> Result<Parts<'_>, PacketError> {
         if packet.len() <= PACKET_HEADER_SIZE {
@@ -68,12 +69,14 @@ impl PacketReader for H266 {
         if header.f() {
             return Err(PacketError::ErrH266CorruptedPacket);
         }
-        if header.is_aggregation_packet() {
+        let nalu_type = header.nalu_type();
+        if nalu_type < AGGREGATION_PACKET || nalu_type > FRAGMENTATION_UNIT {
+            return read_single(self.has_donl, packet);
+        }
+        if nalu_type == AGGREGATION_PACKET {
             read_aggregate(self.has_donl, packet)
-        } else if header.is_fragmentation_unit() {
-            read_fragment(self.has_donl, packet)
         } else {
-            read_single(self.has_donl, packet)
+            read_fragment(self.has_donl, packet)
         }
     }
 

@@ -51,7 +51,11 @@ pub record DepacketizerView (C S : Type 0) : Type 0 where
   pub run : Option (List ℕ)
   pub payload : S
 
--- the same as a depacketizer of a format
+-- the same, which writes lengths or not
+abbrev pub in_form : {C S : Type 0} → Bool → DepacketizerView C S → DepacketizerView C S
+in_form is_avc it = record it { is_avc = is_avc }
+
+-- it as a depacketizer of a format
 abbrev pub depacketizer_state : {C S : Type 0} → Format → DepacketizerView C S → DepacketizerState
 depacketizer_state f it = record { format = f; is_avc = it.is_avc; run = it.run }
 

@@ -8,7 +8,7 @@ ghost use Rattle.h26x_model.specs.Receive.Outcome.{is_startless};
 ghost use Rattle.h26x_model.specs.Receive.DepacketizerState.{after_packets, IsPacketOutcome, AreWritten};
 ghost use Rattle.h26x_model.specs.Receive.RunLimit.{run_len};
 ghost use Rattle.h26x_model.specs.Where.{Where};
-ghost use Rattle.h26x_depacketizer.specs.DepacketizerView.{brought_to, depacketization_of};
+ghost use Rattle.h26x_depacketizer.specs.DepacketizerView.{brought_to, depacketization_of, in_form};
 ghost use Rattle.h26x_depacketizer.specs.Run.{run_memory};
 ghost use Rattle.h26x_depacketizer.specs.OpenText.{IsSameText, view_in_text, view_met_in_text};
 ghost use Rattle.h26x_depacketizer.specs.UnitSink.{grown_to, TellsRoom, WantsRoom};
@@ -197,6 +197,59 @@ impl<C: PacketReader, S: Shows<C>> PayloadDepacketizer<C, S> {
         let parts = S::read(codec, packet)?;
         let run_len = self.run.open_len();
         S::prepare(codec, is_avc, packet, parts, run_len, &mut self.spare)?;
+        let run = &mut self.run;
+        take_packet(codec, is_avc, packet, parts, run, out, codec_extra)?;
+        self.payload.show(codec, packet, parts, &mut self.spare);
+        Ok(())
+    }
+
+    /// Takes a packet as `depacketize_into` does, and writes units in this form, whatever is set:
+    /// behind lengths or behind start codes. Code that names the form has no branch on it.
+    #[inline(always)]
+    pub fn depacketize_as<W: UnitSink>(
+        &mut self,
+        is_avc: bool,
+        packet: &[u8],
+        out: &mut W,
+        codec_extra: &mut CodecExtra,
+    ) -> Result<(), PacketError>
+        ensures outcome { IsPacketOutcome (depacketization_of C.format (in_form is_avc self.old)
+            (W.sink out.old).bytes codec_extra.old) packet.now result }
+        ensures taken { OnOk result
+            (depacketization_of C.format (in_form is_avc self.new) (W.sink out.new).bytes
+            codec_extra.new
+            ≡ after_packets (depacketization_of C.format (in_form is_avc self.old)
+            (W.sink out.old).bytes codec_extra.old) (packet.now ∷ [])) }
+        ensures behind { OnOk result (W.sink out.new
+            ≡ grown_to (W.sink out.new).bytes (W.sink out.old)) }
+        ensures accepted { OnOk result (IsFrontOf (W.sink out.old).bytes (W.sink out.new).bytes) }
+        ensures setting { self.new ≡ record self.old {
+          run = self.new.run;
+          payload = self.new.payload;
+        } }
+        ensures shows { OnOk result (self.new.payload ≡ S.shown self.old.codec packet.now) }
+
+        // The units of an aggregate are those that are shown.
+        ensures aggregate { OnOk result (IfSome (S.units self.new.payload) (λ units.
+            AreWritten (depacketization_of C.format (in_form is_avc self.old)
+            (W.sink out.old).bytes codec_extra.old) units (W.sink out.new).bytes codec_extra.new)) }
+
+        ensures startless { S.is_free ≡ true → is_startless self.old.run
+            ((C.format self.old.codec).read packet.now) ≡ true → IsOk result }
+        ensures kept { OnErr result (self.new ≡ self.old) }
+        ensures kept_sink { OnErr result (W.sink out.new ≡ W.sink out.old) }
+        ensures kept_extra { OnErr result (codec_extra.new ≡ codec_extra.old) }
+
+        // As of `depacketize_into`.
+        ensures told_room { TellsRoom W.room W.lacks out.old out.new result
+            (brought_to C.format (in_form is_avc self.old) packet.now) }
+        ensures lacks { S.is_free ≡ true → WantsRoom result
+            (brought_to C.format (in_form is_avc self.old) packet.now) (W.lacks out.new) }
+    {
+        let codec = self.codec;
+        let parts = S::read(codec, packet)?;
+        let open_len = self.run.open_len();
+        S::prepare(codec, is_avc, packet, parts, open_len, &mut self.spare)?;
         let run = &mut self.run;
         take_packet(codec, is_avc, packet, parts, run, out, codec_extra)?;
         self.payload.show(codec, packet, parts, &mut self.spare);

@@ -10,7 +10,7 @@ use h26x_payload::PayloadFormat;
 pub fn told<C: PayloadFormat>(codec: C, extra: CodecExtra, key: bool) -> CodecExtra
     ensures { result ≡ (C.format codec).extra (key || (C.format codec).has_key extra) }
 {
-    codec.extra(key || codec.has_key(extra))
+    codec.extra(codec.has_key(extra) || key)
 }
 
 /// How many bytes the units of packets of this many bytes may take: four more, and four for each
