@@ -9,6 +9,7 @@ pub mod ContentLemmas
 pub mod SliceLemmas
 pub mod LimitLemmas
 pub mod ReceptionLemmas
+pub mod ShortLemmas
 pub mod MissingLemmas
 pub mod NackLemmas
 pub mod NackOrderLemmas

@@ -2,7 +2,6 @@
 use Rattle.std.proofs.Common.{◌≡◌, ◌∙◌, ap, refl, ℕ, Bool, true, false, cond, List, Option, Some}
 use Rattle.std.specs.Prelude.{not, ◌&&◌, ◌||◌, ◌==◌}
 use Rattle.h26x_core.specs.declared.extra.CodecExtra.{CodecExtra}
-use Rattle.h26x_access_units.specs.declared.content.Content.{Content}
 use Rattle.h26x_access_units.specs.declared.content.ParameterSets.{ParameterSets}
 use Rattle.h26x_access_units.specs.declared.content.Slice.{Slice}
 use Rattle.h26x_access_units.specs.declared.decoder.DecoderState.{DecoderState}

@@ -12,6 +12,7 @@ pub mod Content
 pub mod Decoder
 pub mod ReceivedAccessUnit
 pub mod Reception
+pub mod Short
 pub mod Decodable
 pub mod Account
 pub mod WholeSent

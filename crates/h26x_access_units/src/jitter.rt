@@ -382,6 +382,7 @@ impl JitterBuffer {
     }
 
     /// Takes back a packet that doesn't wait, for its memory, as [`ReorderBuffer::give_back`] does.
+    #[inline(always)]
     pub fn give_back(&mut self, packet: HeldPacket)
         ensures { self.new ≡ self.old }
     {
@@ -436,6 +437,7 @@ impl JitterBuffer {
     }
 
     /// The first packet, due or not.
+    #[inline(always)]
     pub fn pop_first(&mut self) -> Option<HeldPacket>
         ensures packet { option_map numbered_packet result ≡ slice_get self.old.buffer.held 0 }
         ensures after { self.new ≡ without_due self.old }

@@ -24,6 +24,7 @@ mod numbers;
 mod passed;
 mod pushed;
 mod receiver;
+mod short;
 mod told_cases;
 mod unit;
 mod way;

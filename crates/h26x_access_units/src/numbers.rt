@@ -1,7 +1,7 @@
 //! The sequence numbers of the packets of access units.
 
 ghost use Rattle.std.specs.Prelude.{◌≡◌, ℕ, Option, Some, Ok};
-ghost use Rattle.h26x_access_units.specs.Numbers.{fresh_numbers, after_missing, begun_numbers_at, is_timestamp, numbers_closed, numbers_still, numbers_carrying, unit_numbers, carried_behind, numbers_ended, after_gap, after_packet, missing_told, missing_with, first_ended, without_first_ended, after_last, numbers_after};
+ghost use Rattle.h26x_access_units.specs.Numbers.{begun_numbers, fresh_numbers, after_missing, begun_numbers_at, is_timestamp, numbers_closed, numbers_still, numbers_carrying, unit_numbers, carried_behind, numbers_ended, after_gap, after_packet, missing_told, missing_with, first_ended, without_first_ended, after_last, numbers_after};
 
 use h26x_receiver::Received;
 use h26x_reorder::RtpPacket;
@@ -110,6 +110,23 @@ impl NumbersSoFar {
         }
     }
 
+    /// The numbers of an access unit that a packet begins, before which so many are missing.
+    #[inline(always)]
+    fn begun(&self, packet: &RtpPacket<'_>, missing: u32) -> AccessUnitNumbers
+        ensures { result ≡ begun_numbers self.now.marked self.now.has_begun self.now.has_taken
+            self.now.carried packet.now missing }
+    {
+        AccessUnitNumbers {
+            timestamp: packet.timestamp,
+            first: packet.sequence,
+            last: packet.sequence,
+            missing: missing.saturating_add(self.carried),
+            continues: is_timestamp(self.marked, packet.timestamp),
+            follows: self.has_begun && missing == 0,
+            is_counted: self.has_taken,
+        }
+    }
+
     /// A packet came, before which so many are missing: its access unit is open, and another one ended.
     #[inline]
     fn go_on(&mut self, packet: &RtpPacket<'_>, missing: u32)
@@ -127,18 +144,41 @@ impl NumbersSoFar {
             }
             _ => {
                 self.ended = self.unit;
-                self.unit = Some(AccessUnitNumbers {
-                    timestamp: packet.timestamp,
-                    first: packet.sequence,
-                    last: packet.sequence,
-                    missing: missing.saturating_add(self.carried),
-                    continues: self.marked == Some(packet.timestamp),
-                    follows: self.has_begun && missing == 0,
-                    is_counted: self.has_taken,
-                });
+                self.unit = Some(self.begun(packet, missing));
                 self.carried = 0;
             }
         }
+    }
+
+    /// A packet with a marker came, before which so many are missing: its access unit ended, whose
+    /// numbers are written where they stay.
+    #[inline(always)]
+    fn end_with(&mut self, packet: &RtpPacket<'_>, missing: u32)
+        ensures { self.new ≡ record self.old {
+          unit = None;
+          marked = Some packet.now.1.timestamp;
+          carried = carried_behind self.old.unit self.old.carried packet.now.1.timestamp;
+          ended = numbers_ended self.old.unit packet.now.1.timestamp;
+          ended_by_marker = Some (unit_numbers self.old packet.now missing);
+        } }
+    {
+        match self.unit {
+            Some(unit) if unit.timestamp == packet.timestamp => {
+                self.ended = None;
+                self.ended_by_marker = Some(AccessUnitNumbers {
+                    last: packet.sequence,
+                    missing: unit.missing.saturating_add(missing),
+                    ..unit
+                });
+            }
+            unit => {
+                self.ended = unit;
+                self.ended_by_marker = Some(self.begun(packet, missing));
+                self.carried = 0;
+            }
+        }
+        self.marked = Some(packet.timestamp);
+        self.unit = None;
     }
 
     /// A number was skipped or refused, and so many are missing up to it.
@@ -155,17 +195,15 @@ impl NumbersSoFar {
     {
         let missing = self.skipped_gap.saturating_add(u32::from(missing));
         self.skipped_gap = 0;
-        self.go_on(packet, missing);
-        self.has_begun = true;
-        self.has_taken = true;
         if packet.marker {
-            self.marked = Some(packet.timestamp);
-            self.ended_by_marker = self.unit;
-            self.unit = None;
+            self.end_with(packet, missing);
         } else {
+            self.go_on(packet, missing);
             self.marked = None;
             self.ended_by_marker = None;
         }
+        self.has_begun = true;
+        self.has_taken = true;
     }
 
     /// Notes what became of a packet that was due, and not refused.

@@ -1,12 +1,13 @@
 //! A receiver that takes packets as they come and gives out access units.
 
 ghost use Rattle.std.specs.Prelude.{◌≡◌, ◌^◌, ◌<◌, ◌≤◌, Option, true, false, not, ◌&&◌, [], None, Some, Ok, Err, IfOk, OnOk, OnErr, IfErr, length};
-ghost use Rattle.std.specs.Option.{option_map};
+ghost use Rattle.std.specs.Option.{option_map, unwrap_or};
 ghost use Rattle.h26x_reorder.specs.Rtp.{rtp_body};
 ghost use Rattle.h26x_reorder.specs.ReorderBuffer.{numbered_packet, push_answer};
 ghost use Rattle.h26x_reorder.specs.declared.pushed.Pushed.TheVariants as buffered;
 ghost use Rattle.h26x_access_units.specs.Pushed.{IsNotPushedReason, is_kept, not_pushed_reason};
-ghost use Rattle.h26x_access_units.specs.JitterBuffer.{may_tell_first};
+ghost use Rattle.h26x_access_units.specs.JitterBuffer.{awaited, may_tell_first, without_due};
+ghost use Rattle.h26x_access_units.specs.Passed.{passed_with};
 ghost use Rattle.h26x_assembler.specs.AccessUnit.{units_so_far_value};
 ghost use Rattle.h26x_assembler.specs.Assembler.{assembly_at};
 ghost use Rattle.h26x_access_units.specs.ReceivedAccessUnit.{received_unit_value};
@@ -23,6 +24,7 @@ use crate::jitter::JitterBuffer;
 use crate::numbers::NumbersSoFar;
 use crate::passed::PassedNumbers;
 use crate::pushed::{NotPushed, NotPushedReason, Pushed};
+use crate::short;
 use crate::unit::{self, ReceivedAccessUnit, remove_first};
 use crate::way::Way;
 use h26x_assembler::{AccessUnit, AccessUnitAssembler, UnitsSoFar};
@@ -31,6 +33,17 @@ use h26x_depacketizer::RunDepacketizer;
 use h26x_receiver::SequencedDepacketizer;
 use h26x_reorder::{HeldPacket, RtpPacket};
 use std::alloc::Global;
+
+/// The first packet that waits, of this number, was taken: it waits no more.
+#[inline(always)]
+fn pass_first(waiting: &mut JitterBuffer, passed: &mut PassedNumbers, number: u16)
+    ensures waiting { waiting.new ≡ without_due waiting.old }
+    ensures passed { passed.new
+        ≡ passed_with (unwrap_or (awaited waiting.old) 0) number passed.old }
+{
+    passed.take(waiting.awaited().unwrap_or(0), number);
+    waiting.drop_first();
+}
 
 /// Takes RTP packets as they come and gives out access units.
 #[derive(Debug, Drop)]
@@ -128,6 +141,7 @@ impl<D: RunDepacketizer> AccessUnitReceiver<D> {
     /// taken at once, where none waits or is missing right before it, and no access unit has ended that
     /// `next` hasn't given out. One without a payload came and bears nothing. Without memory all stays
     /// as it was, and it can be given again; one that isn't kept wants none.
+    #[inline(always)]
     pub fn push(&mut self, now: u32, packet: &RtpPacket<'_>) -> Result<Pushed, PacketError>
         ensures answer { let r = ⟦<Self as Receives>⟧.reception in
             IsPushAnswer (r self.old) packet.now result }
@@ -174,6 +188,7 @@ impl<D: RunDepacketizer> AccessUnitReceiver<D> {
     }
 
     /// What a number is to what the stream passed and to what waits.
+    #[inline(always)]
     fn way_of(&self, number: u16) -> Way
         ensures way { let r = ⟦<Self as Receives>⟧.reception in result ≡ way_of (r self.now) number }
         ensures held { let r = ⟦<Self as Receives>⟧.reception in result ≡ Way.Ahead →
@@ -214,6 +229,7 @@ impl<D: RunDepacketizer> AccessUnitReceiver<D> {
     }
 
     /// Takes a packet at once, which waits no more than one that is due.
+    #[inline(always)]
     fn take_at_once(&mut self, packet: &RtpPacket<'_>) -> Result<(), PacketError>
         requires { let r = ⟦<Self as Receives>⟧.reception in
             is_taken_at_once (r self.old) packet.now ≡ true }
@@ -226,7 +242,7 @@ impl<D: RunDepacketizer> AccessUnitReceiver<D> {
             OnErr result (r self.new ≡ r self.old) }
     {
         let sequence = packet.sequence;
-        let received = take_begun(
+        let received = short::take_due(
             &mut self.assembler,
             &mut self.ended,
             &mut self.framing,
@@ -511,9 +527,7 @@ impl<D: RunDepacketizer> AccessUnitReceiver<D> {
         if is_want_of_memory(&received) {
             return Err(PacketError::OutOfMemory);
         }
-        self.passed
-            .take(self.waiting.awaited().unwrap_or(0), number);
-        self.waiting.drop_first();
+        pass_first(&mut self.waiting, &mut self.passed, number);
         Ok(true)
     }
 
@@ -537,6 +551,40 @@ impl<D: RunDepacketizer> AccessUnitReceiver<D> {
     /// Takes the packet that is due, if one is; where the access unit that is open ends before it
     /// that ends first, and if there is one the packet is due still.
     fn step(&mut self, now: u32) -> Result<bool, PacketError>
+        requires { let r = ⟦<Self as Receives>⟧.reception in (r self.old).assembler.ended ≡ [] }
+        ensures step { let r = ⟦<Self as Receives>⟧.reception in
+            IfOk result (λ took. IsStepOrNone now (r self.old) took (r self.new)) }
+        ensures memory { OnErr result (result ≡ Err PacketError.OutOfMemory) }
+        ensures kept { let r = ⟦<Self as Receives>⟧.reception in
+            OnErr result (IsStepInPart now (r self.old) (r self.new)) }
+    {
+        let packet = match self.waiting.first_due(now) {
+            Some(held) => held.packet(),
+            None => return Ok(false),
+        };
+        if ends_before(&self.assembler, self.framing, &packet) {
+            return self.step_at_end(now);
+        }
+        let number = packet.sequence;
+        let received = short::take_due(
+            &mut self.assembler,
+            &mut self.ended,
+            &mut self.framing,
+            &mut self.numbers,
+            &mut self.counts,
+            &packet,
+        );
+        if is_want_of_memory(&received) {
+            return Err(PacketError::OutOfMemory);
+        }
+        pass_first(&mut self.waiting, &mut self.passed, number);
+        Ok(true)
+    }
+
+    /// So where one may end first.
+    #[cold]
+    #[inline(never)]
+    fn step_at_end(&mut self, now: u32) -> Result<bool, PacketError>
         requires { let r = ⟦<Self as Receives>⟧.reception in (r self.old).assembler.ended ≡ [] }
         ensures step { let r = ⟦<Self as Receives>⟧.reception in
             IfOk result (λ took. IsStepOrNone now (r self.old) took (r self.new)) }
@@ -638,6 +686,7 @@ impl<D: RunDepacketizer> AccessUnitReceiver<D> {
     }
 
     /// Gives out the first access unit that ended.
+    #[inline(never)]
     fn give(&mut self) -> Option<ReceivedAccessUnit>
         ensures unit { let r = ⟦<Self as Receives>⟧.reception in
             option_map received_unit_value result ≡ unit_given (r self.old) }
@@ -661,7 +710,7 @@ impl<D: RunDepacketizer> AccessUnitReceiver<D> {
     ///
     /// Without memory the error is `OutOfMemory`: what was taken before stays taken, and the packet for
     /// which memory lacks is due still.
-    #[inline]
+    #[inline(always)]
     pub fn next(&mut self, now: u32) -> Result<Option<ReceivedAccessUnit>, PacketError>
         ensures next { let r = ⟦<Self as Receives>⟧.reception in
             GivesNext now (r self.old) result (r self.new) }
@@ -705,6 +754,7 @@ impl<D: RunDepacketizer> AccessUnitReceiver<D> {
     }
 
     /// What `next` does.
+    #[inline(never)]
     fn next_due(&mut self, now: u32) -> Result<Option<ReceivedAccessUnit>, PacketError>
         ensures next { let r = ⟦<Self as Receives>⟧.reception in
             GivesNext now (r self.old) result (r self.new) }

@@ -1,9 +1,9 @@
 //! An assembler that gives out access units.
 
-ghost use Rattle.std.specs.Prelude.{◌≡◌, ◌+◌, ◌≤◌, ℕ, true, false, None, Ok, Err, OnOk, OnErr, vec_len, vec_capacity};
+ghost use Rattle.std.specs.Prelude.{◌≡◌, ◌+◌, ◌≤◌, ℕ, nat_lt, List, true, false, None, Ok, Err, OnOk, OnErr, vec_len, vec_capacity};
 ghost use Rattle.h26x_receiver.specs.Sequenced.{skip_answer, is_run_kept, IfTaken, UnlessTaken};
 ghost use Rattle.h26x_assembler.specs.declared.access_unit.AccessUnit.{AccessUnit};
-ghost use Rattle.h26x_assembler.specs.AccessUnit.{none_open, is_unit_at, IsAssemblyAnswer, after_taken_rtp, after_unit_skip, after_pass_over, after_ending, after_finishing, unit_len, is_text_given_up, parts_at, IsTakenAnswerAt};
+ghost use Rattle.h26x_assembler.specs.AccessUnit.{none_open, is_unit_at, IsAssemblyAnswer, after_taken_rtp, after_unit_skip, after_pass_over, after_ending, after_finishing, unit_len, unit_within, is_text_given_up, parts_at, IsTakenAnswerAt};
 ghost use Rattle.h26x_assembler.specs.Assembler.{assembly_at, after_receiving, gives_text_up, IsNumberPassed};
 ghost use Rattle.h26x_depacketizer.specs.RunDepacketizer.{RunStaysWithin};
 
@@ -211,7 +211,75 @@ impl<D: RunDepacketizer> AccessUnitAssembler<D> {
         let (packets, unit, spare) = (&mut self.packets, &mut self.unit, &mut self.spare);
         let received = take(packets, unit, spare, packet, out);
         if was_taken(&received) {
-            self.is_text_given_up = self.unit.limit(self.unit_limit);
+            self.limit_text();
+        }
+        received
+    }
+
+    /// Gives up the text of the access unit that is open where it is longer than the limit, and tells
+    /// whether it was.
+    #[inline(always)]
+    fn limit_text(&mut self)
+        ensures { self.new ≡ record self.old {
+          unit = record self.old.unit { unit = unit_within self.old.unit_limit self.old.unit.unit };
+          is_text_given_up = nat_lt self.old.unit_limit (unit_len self.old.unit.unit);
+        } }
+    {
+        self.is_text_given_up = self.unit.limit(self.unit_limit);
+    }
+
+    /// Takes a packet without a marker into the access unit that is open, whose timestamp it has, as
+    /// [`receive`](Self::receive) does: it ends none.
+    #[inline(always)]
+    pub fn go_on(&mut self, packet: &RtpPacket<'_>) -> Result<Received, PacketError>
+        requires at { is_unit_at self.old.unit.unit packet.now.1.timestamp ≡ true }
+        requires unmarked { packet.now.1.marker ≡ false }
+        ensures answer { (ended : List AccessUnit) → IsAssemblyAnswer self.old.packets.run_limit
+            (assembly_at D.state self.old ended) packet.now result }
+        ensures after { (ended : List AccessUnit) → assembly_at D.state self.new ended
+            ≡ after_receiving D.state self.old ended packet.now result }
+        ensures limit { self.new.packets.run_limit ≡ self.old.packets.run_limit }
+        ensures unit_limit { self.new.unit_limit ≡ self.old.unit_limit }
+        ensures text { (ended : List AccessUnit) → IfTaken result (self.new.is_text_given_up
+            ≡ gives_text_up D.state self.old ended packet.now) }
+        ensures late { (n : ℕ) → result ≡ Ok (Received.Late n) → self.new ≡ self.old }
+        ensures kept { OnErr result (self.new ≡ self.old) }
+    {
+        let received = self.unit.go_on(&mut self.packets, packet);
+        if was_taken(&received) {
+            self.limit_text();
+        }
+        received
+    }
+
+    /// Takes a packet that begins an access unit, since none of its timestamp is open, as
+    /// [`receive`](Self::receive) does.
+    #[inline(always)]
+    pub fn begin(
+        &mut self,
+        packet: &RtpPacket<'_>,
+        out: &mut Vec<AccessUnit>,
+    ) -> Result<Received, PacketError>
+        requires { is_unit_at self.old.unit.unit packet.now.1.timestamp ≡ false }
+        ensures answer { IsAssemblyAnswer self.old.packets.run_limit
+            (assembly_at D.state self.old out.old.items) packet.now result }
+        ensures after { assembly_at D.state self.new out.new.items
+            ≡ after_receiving D.state self.old out.old.items packet.now result }
+        ensures limit { self.new.packets.run_limit ≡ self.old.packets.run_limit }
+        ensures unit_limit { self.new.unit_limit ≡ self.old.unit_limit }
+        ensures text { IfTaken result (self.new.is_text_given_up
+            ≡ gives_text_up D.state self.old out.old.items packet.now) }
+        ensures late { (n : ℕ) → result ≡ Ok (Received.Late n) → self.new ≡ self.old }
+        ensures late_out { (n : ℕ) → result ≡ Ok (Received.Late n) →
+            out.new.items ≡ out.old.items }
+        ensures kept { OnErr result (self.new ≡ self.old) }
+        ensures kept_out { OnErr result (out.new.items ≡ out.old.items) }
+    {
+        out.reserve(2)?;
+        let (packets, unit, spare) = (&mut self.packets, &mut self.unit, &mut self.spare);
+        let received = begin(packets, unit, spare, packet, out);
+        if was_taken(&received) {
+            self.limit_text();
         }
         received
     }

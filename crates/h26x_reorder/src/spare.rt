@@ -38,7 +38,7 @@ impl SparePayloads {
     }
 
     /// A copy of a payload, in memory that is kept, where there is some.
-    #[inline]
+    #[inline(always)]
     pub(crate) fn copy(&mut self, payload: &[u8]) -> Result<Vec<u8>, AllocError>
         ensures { IfOk result (λ copy. copy.items ≡ payload.now) }
     {

@@ -1,6 +1,5 @@
-use Rattle.std.proofs.Common.{◌≡◌, sym, subst, ℕ, ◌+◌, Bool, true, false, List, [], ◌∷◌, Option, Some, refl, arith}
+use Rattle.std.proofs.Common.{◌≡◌, sym, subst, ℕ, Bool, true, false, List, [], ◌∷◌, Some, refl, arith}
 use Rattle.h26x_core.specs.ByteStream.{annex_b}
-use Rattle.h26x_core.specs.declared.extra.CodecExtra.{CodecExtra}
 use Rattle.h26x_core.specs.declared.extra.CodecExtra.TheVariants as extras
 use Rattle.h26x_model.specs.Receive.DepacketizerState.{DepacketizerState, Depacketization}
 use Rattle.h26x_reorder.specs.Rtp.{RtpBody, rtp_body}

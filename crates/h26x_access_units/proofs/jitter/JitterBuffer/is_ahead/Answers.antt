@@ -1,6 +1,6 @@
-use Rattle.std.proofs.Common.{rules, arith, ◌≡◌, ◌<◌, ◌≤◌, Some, false, sym, subst}
+use Rattle.std.proofs.Common.{rules, ◌≡◌, ◌<◌, ◌≤◌, Some, false, sym, subst}
 use Rattle.h26x_core.specs.Sequence.{distance_ahead}
-use Rattle.h26x_access_units.specs.JitterBuffer.{JitterState, is_ahead, reach}
+use Rattle.h26x_access_units.specs.JitterBuffer.{JitterState, is_ahead}
 use Rattle.h26x_access_units.proofs.JitterLemmas.{near_not_ahead, near_reach}
 use Rattle.h26x_access_units.proofs.jitter.JitterBuffer.is_ahead.Goals as goal
 

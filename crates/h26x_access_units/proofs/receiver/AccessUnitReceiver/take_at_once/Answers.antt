@@ -15,7 +15,7 @@ pub returns-clause-taken : goal.returns-clause-taken
 returns-clause-taken g c = λ now.
     let old = c.args.self.now in
     let state = g.D.RunDepacketizer.state in
-    let it = c.take_begun-received in
+    let it = c.take_due-received in
     let p = c.args.packet.now in
     let s = reception old.waiting (option_map numbered_packet old.stray) old.is_anew old.passed (open_assembly (state old.assembler.packets.depacketizer) old.assembler.packets.expected old.assembler.unit (map access_unit_value old.ended.items)) old.framing old.numbers old.decoder old.counts old.assembler.packets.run_limit old.assembler.unit_limit in
     let lacks : lacks_memory it.result ≡ false = search rules in

@@ -22,8 +22,8 @@ returns-clause-taken g c =
       room = λ bad. absurd (let both = sym (ap lacks_memory bad) ∙ lacks in cc);
       stands = due_stands
           (reception old.waiting (option_map numbered_packet old.stray) old.is_anew old.passed (open_assembly (state old.assembler.packets.depacketizer) old.assembler.packets.expected old.assembler.unit (map access_unit_value old.ended.items)) old.framing old.numbers old.decoder old.counts old.assembler.packets.run_limit old.assembler.unit_limit)
-          c.packet-packet.result it.result c.drop_first.new.self c.take.new.self
+          c.packet-packet.result it.result c.pass_first.new.waiting c.pass_first.new.passed
           (open_assembly (state it.new.assembler.packets.depacketizer) it.new.assembler.packets.expected it.new.assembler.unit (map access_unit_value it.new.ended.items))
           it.new.framing it.new.numbers it.new.counts it.new.assembler.packets.run_limit it.new.assembler.unit_limit
-          c.drop_first.ensures (search rules) (it.ensures.after lacks) (it.ensures.framing lacks) (it.ensures.numbers lacks) (it.ensures.counts lacks) it.ensures.limit it.ensures.unit_limit;
+          c.pass_first.ensures.waiting (search rules) (it.ensures.after lacks) (it.ensures.framing lacks) (it.ensures.numbers lacks) (it.ensures.counts lacks) it.ensures.limit it.ensures.unit_limit;
     }

@@ -1,0 +1,89 @@
+use Rattle.std.proofs.Common.{◌≡◌, ◌∙◌, ap, subst, ℕ, false, Ok}
+use Rattle.h26x_reorder.specs.Rtp.{RtpBody}
+use Rattle.h26x_assembler.specs.declared.assembler.AccessUnitAssembler.{AccessUnitAssembler}
+use Rattle.h26x_assembler.specs.Assembler.{assembly_at}
+use Rattle.h26x_assembler.specs.AccessUnit.{Assembly, is_text_given_up}
+use Rattle.h26x_access_units.specs.declared.framing.Framing.{Framing}
+use Rattle.h26x_access_units.specs.Reception.{begun_for, framing_of, believed, IsAnswerTo, framing_answered, numbers_answered, counts_answered}
+use Rattle.h26x_access_units.proofs.ReceptionLemmas.{counts_as}
+use Rattle.h26x_access_units.proofs.ShortLemmas.{is_on, on_as, answer_as, at_not_still, none_unbelieved, in_order_framing, in_order_numbers, in_order_counts}
+use Rattle.h26x_access_units.proofs.short.take_on.Goals as goal
+
+pub returns-else-is_in_order-clause-answer : goal.returns-else-is_in_order-clause-answer
+returns-else-is_in_order-clause-answer g c =
+    let s = assembly_at g.D.RunDepacketizer.state c.args.assembler.now c.args.ended.now.items in
+    let most = c.args.assembler.now.packets.run_limit in
+    let it = is_on s c.args.framing.now c.args.numbers.now c.args.packet.now c.requires in
+    on_as s c.args.framing.now c.args.numbers.now c.args.packet.now (λ (b : Assembly) (at : Framing) (q : ℕ × RtpBody). IsAnswerTo most b q (Ok c.in-Ok.received)) it
+    (answer_as most s c.args.packet.now (Ok c.in-Ok.received) it.bears (c.in-Ok.ensures.answer c.args.ended.now.items))
+
+pub returns-else-is_in_order-clause-framing : goal.returns-else-is_in_order-clause-framing
+returns-else-is_in_order-clause-framing g c =
+    let s = assembly_at g.D.RunDepacketizer.state c.args.assembler.now c.args.ended.now.items in
+    let it = is_on s c.args.framing.now c.args.numbers.now c.args.packet.now c.requires in
+    on_as s c.args.framing.now c.args.numbers.now c.args.packet.now (λ (b : Assembly) (at : Framing) (q : ℕ × RtpBody). false ≡ false → c.note_received.new.framing ≡ framing_answered c.args.framing.now at q (Ok c.in-Ok.received)) it
+    (λ _. c.note_received.ensures.framing)
+
+pub returns-else-is_in_order-clause-numbers : goal.returns-else-is_in_order-clause-numbers
+returns-else-is_in_order-clause-numbers g c =
+    let s = assembly_at g.D.RunDepacketizer.state c.args.assembler.now c.args.ended.now.items in
+    let it = is_on s c.args.framing.now c.args.numbers.now c.args.packet.now c.requires in
+    on_as s c.args.framing.now c.args.numbers.now c.args.packet.now (λ (b : Assembly) (at : Framing) (q : ℕ × RtpBody). false ≡ false → c.note_received.new.numbers ≡ numbers_answered b c.args.numbers.now at q (Ok c.in-Ok.received)) it
+    (λ _. c.note_received.ensures.numbers s.expected)
+
+pub returns-else-is_in_order-clause-counts : goal.returns-else-is_in_order-clause-counts
+returns-else-is_in_order-clause-counts g c =
+    let s = assembly_at g.D.RunDepacketizer.state c.args.assembler.now c.args.ended.now.items in
+    let most = c.args.assembler.now.packets.run_limit in
+    let limit = c.args.assembler.now.unit_limit in
+    let p = c.args.packet.now in
+    let it = is_on s c.args.framing.now c.args.numbers.now p c.requires in
+    on_as s c.args.framing.now c.args.numbers.now p (λ (b : Assembly) (at : Framing) (q : ℕ × RtpBody). false ≡ false → c.note_received.new.counts ≡ counts_answered b c.args.counts.now at q p.1.marker (is_text_given_up most limit b q) (Ok c.in-Ok.received)) it
+    (λ _. c.note_received.ensures.counts s.expected
+    ∙ counts_as s c.args.counts.now c.args.framing.now p p.1.marker false false _ _ c.in-Ok.received (at_not_still s c.args.framing.now p it.at) (none_unbelieved p.1.marker)
+    (λ some taken. ap (λ (a : AccessUnitAssembler _). a.is_text_given_up) c.forget_marker.ensures ∙ c.in-Ok.ensures.text c.args.ended.now.items taken))
+
+pub returns-in-Err-clause-answer : goal.returns-in-Err-clause-answer
+returns-in-Err-clause-answer g c =
+    subst (λ (a : AccessUnitAssembler _).
+    let b = begun_for (assembly_at g.D.RunDepacketizer.state a c.args.ended.now.items) c.args.packet.now in
+    IsAnswerTo a.packets.run_limit b (believed (framing_of b c.args.framing.now c.args.numbers.now c.args.packet.now) c.args.packet.now) c.take_begun.result)
+    c.in-Err.ensures.kept c.take_begun.ensures.answer
+
+pub returns-then-is_in_order-clause-answer : goal.returns-then-is_in_order-clause-answer
+returns-then-is_in_order-clause-answer g c =
+    let s = assembly_at g.D.RunDepacketizer.state c.args.assembler.now c.args.ended.now.items in
+    let most = c.args.assembler.now.packets.run_limit in
+    let it = is_on s c.args.framing.now c.args.numbers.now c.args.packet.now c.requires in
+    on_as s c.args.framing.now c.args.numbers.now c.args.packet.now (λ (b : Assembly) (at : Framing) (q : ℕ × RtpBody). IsAnswerTo most b q (Ok c.in-Ok.received)) it
+    (answer_as most s c.args.packet.now (Ok c.in-Ok.received) it.bears (c.in-Ok.ensures.answer c.args.ended.now.items))
+
+pub returns-then-is_in_order-clause-framing : goal.returns-then-is_in_order-clause-framing
+returns-then-is_in_order-clause-framing g c =
+    let s = assembly_at g.D.RunDepacketizer.state c.args.assembler.now c.args.ended.now.items in
+    let p = c.args.packet.now in
+    let it = is_on s c.args.framing.now c.args.numbers.now p c.requires in
+    let is = c.is_in_order.ensures c.if-is_in_order.true in
+    on_as s c.args.framing.now c.args.numbers.now p (λ (b : Assembly) (at : Framing) (q : ℕ × RtpBody). false ≡ false → c.note_in_order.new.framing ≡ framing_answered c.args.framing.now at q (Ok c.in-Ok.received)) it
+    (λ _. in_order_framing c.args.framing.now c.note_in_order.new.framing c.args.framing.now p c.in-Ok.received is (c.note_in_order.ensures.framing))
+
+pub returns-then-is_in_order-clause-numbers : goal.returns-then-is_in_order-clause-numbers
+returns-then-is_in_order-clause-numbers g c =
+    let s = assembly_at g.D.RunDepacketizer.state c.args.assembler.now c.args.ended.now.items in
+    let p = c.args.packet.now in
+    let it = is_on s c.args.framing.now c.args.numbers.now p c.requires in
+    let is = c.is_in_order.ensures c.if-is_in_order.true in
+    on_as s c.args.framing.now c.args.numbers.now p (λ (b : Assembly) (at : Framing) (q : ℕ × RtpBody). false ≡ false → c.note_in_order.new.numbers ≡ numbers_answered b c.args.numbers.now at q (Ok c.in-Ok.received)) it
+    (λ _. in_order_numbers s c.args.numbers.now c.note_in_order.new.numbers c.args.framing.now p c.in-Ok.received it.bears is (c.note_in_order.ensures.numbers s.expected))
+
+pub returns-then-is_in_order-clause-counts : goal.returns-then-is_in_order-clause-counts
+returns-then-is_in_order-clause-counts g c =
+    let s = assembly_at g.D.RunDepacketizer.state c.args.assembler.now c.args.ended.now.items in
+    let p = c.args.packet.now in
+    let it = is_on s c.args.framing.now c.args.numbers.now p c.requires in
+    let is = c.is_in_order.ensures c.if-is_in_order.true in
+    let most = c.args.assembler.now.packets.run_limit in
+    let limit = c.args.assembler.now.unit_limit in
+    on_as s c.args.framing.now c.args.numbers.now p (λ (b : Assembly) (at : Framing) (q : ℕ × RtpBody). false ≡ false → c.note_in_order.new.counts ≡ counts_answered b c.args.counts.now at q p.1.marker (is_text_given_up most limit b q) (Ok c.in-Ok.received)) it
+    (λ _. in_order_counts s c.args.counts.now c.note_in_order.new.counts c.args.framing.now p p.1.marker _ _ c.in-Ok.received it.bears is (at_not_still s c.args.framing.now p it.at) (none_unbelieved p.1.marker)
+    (λ some taken. ap (λ (a : AccessUnitAssembler _). a.is_text_given_up) c.forget_marker.ensures ∙ c.in-Ok.ensures.text c.args.ended.now.items taken) (c.note_in_order.ensures.counts s.expected))
