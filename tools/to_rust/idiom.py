@@ -19,6 +19,7 @@
 import re
 
 from .laws import erase_modules
+from .layer import OVER
 from .tree import (Function, Refused, Token, add_use, after, at, bare, bare_words, before, commas, deep, functions, is_among,
                    is_function, is_group, is_pub, is_sign, is_word, parse, words_of)
 
@@ -173,7 +174,7 @@ def rewrite_paths(module, crate, crates):
             if is_word(it, "crate") and follows:
                 out += parse(f"crate::{module}::{crate}")
             elif is_among(it, crates) and follows and not behind:
-                out += parse(f"crate::{module}::{it.text}")
+                out += parse("crate" if crate in OVER else f"crate::{module}::{it.text}")
             elif is_word(it, *LIBRARIES) and follows and not behind:
                 out += parse(f"crate::support::{it.text}")
             elif is_word(it, "std") and follows and not behind:

@@ -2,7 +2,7 @@
 
 from pathlib import Path
 
-from . import calls, contracts, exports, idiom, laws, memory, types, uncalled
+from . import calls, contracts, exports, idiom, laws, layer, memory, types, uncalled
 from .tree import after, at, deep, functions, is_group, is_sign, is_word, parse, words_of, written
 
 
@@ -31,7 +31,8 @@ class Crate:
 
     def thin(self, names):
         """Leaves what runs; files of which nothing is left are dropped, with their modules."""
-        files = {place: self.called(place, items) for place, items in self.files.items()}
+        files = {place: layer.change(self.name, place, items) for place, items in self.files.items()}
+        files = {place: self.called(place, items) for place, items in files.items()}
         files = {place: laws.erase_laws(items, names) for place, items in files.items()}
         files = {place: deep(items, memory.erase_allocators) for place, items in files.items()}
         empty = set()
@@ -124,7 +125,6 @@ class Translation:
         for name in kept:
             lines += ["#[forbid(unsafe_code)]"] * (bool(shared) and name not in exports.UNSAFE)
             lines += [f'#[cfg(feature = "{FEATURES[name]}")]'] if name in FEATURES else []
-            lines += ["#[cfg(test)]"] if name in uncalled.TESTED else []
             lines += [f"pub mod {name};"]
         return "\n".join([*lines, ""])
 
@@ -133,7 +133,7 @@ class Translation:
         named = words_of(items)
         unnamed = crate.words[place] - named
         unnamed -= {name for name, methods in self.traits.items() if methods & named}
-        gone = self.laws | unnamed | {"Model", "Global", "Serialize", "Deserialize", "Error"}
+        gone = self.laws | unnamed | uncalled.unnamed(crate.name) | {"Model", "Global", "Serialize", "Deserialize", "Error"}
         items = laws.erase_uses(items, gone, crate.gone | self.without)
         items = idiom.mark_unread(self.owed.lower_uses(items))
         fallible = memory.Fallible(items)

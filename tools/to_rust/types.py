@@ -40,6 +40,7 @@ ADDED = {
     "RepairFormat": "Hash", "RepairMap": "Hash", "RtxFormat": "Hash", "RtxError": "Hash",
     "ConstraintsError": "Hash", "LevelSetsError": "Hash", "CapabilityPointsError": "Hash",
     "ParallelTool": "Hash", "CapabilityPoint": "Hash",
+    "Carried": "Clone PartialEq Eq Hash", "Repeated": "Clone PartialEq Eq Hash",
 }
 LISTED = {"H264Parameter", "H265Parameter", "H266Parameter"}
 GROWING = {"CodecExtra", "Fault", "RepairFormat"} | LISTED
@@ -50,6 +51,9 @@ BYTES = [
     (re.compile(r"Option < Vec < u8 > >"), "it.as_ref().map(|it| Count(it.len()))"),
     (re.compile(r"& (?:'\w+ )?Option < Vec < u8 > >"), "it.as_ref().map(|it| Count(it.len()))"),
 ]
+# Types whose lists of bytes are packets, and how such a list is shown.
+OF_PACKETS = {"Carried", "Repeated"}
+PACKETS = [(re.compile(r"Vec < Vec < u8 > >"), "Counts(&it)")]
 
 
 class Types:
@@ -124,18 +128,18 @@ class Types:
         """`Debug` of a struct that has bytes in a field; nothing of another type."""
         if not is_word(items[keyword], "struct") or not is_group(items[-1], "{"):
             return None
-        shown, has_bytes = [], False
+        shown, helpers = [], set()
         for part in commas(items[-1].items, is_typed=True):
             field = re.search(r"(?:^|\b)(\w+) : (.*)$", bare(part))
             if not field:
                 continue
             what = f"&self.{field[1]}"
-            for kind, how in BYTES:
+            for kind, how in BYTES + PACKETS * (name in OF_PACKETS):
                 if kind.fullmatch(field[2]):
                     what = "&" + re.sub(r"\bit\b", f"self.{field[1]}", how, count=1)
-                    has_bytes = True
+                    helpers.add(re.search(r"Counts?", how)[0])
             shown.append(f'.field("{field[1]}", {what})')
-        if not has_bytes:
+        if not helpers:
             return None
         start = after(items, after(items, keyword))
         generics = [it for it in items[start:generics_end(items, start)] if not is_trivia(it)]
@@ -145,7 +149,7 @@ class Types:
             "/// Of bytes it tells how many there are.",
             f"impl{bare(generics)} core::fmt::Debug for {of} {{",
             "fn fmt(&self, f: &mut core::fmt::Formatter<'_>) -> core::fmt::Result {",
-            "use crate::support::Count;",
+            *(f"use crate::support::{helper};" for helper in sorted(helpers)),
             f'f.debug_struct("{name}"){"".join(shown)}.finish()', "}", "}"])
 
     @staticmethod

@@ -4,78 +4,121 @@ what nobody calls and no list has fails tools/check-rust, and so does what a lis
 | In Rattle | In Rust | Reason |
 |---|---|---|
 | a worked case: a function without parameters, answer and body | nothing | its contract is all that it is |
-| the functions of `UNCALLED` | nothing | no caller of Rust, nothing of the C library and no test calls them |
+| the functions of `UNCALLED`, and its types with all that they do | nothing | no caller of Rust and nothing of the C library calls them |
 | the items of `OTHERS` | `#[allow(dead_code, reason = ..)]`, and what they call is called | the C library, or tests, call them |
-| the crates of `TESTED` | behind `#[cfg(test)]` | tests alone call them |
 """
 
-from .tree import (Function, Refused, after, at, bare, drop_heading, functions, heading_start, is_among, is_function,
-                   is_word, parse)
+from .tree import (Function, Refused, after, at, bare, drop_heading, generics_end, heading_start, is_among, is_function,
+                   is_group, is_sign, is_trivia, is_word, parse)
 
-# By their files.
+# By their files: functions, where another in the file has the same name behind their type's, and types.
 UNCALLED = {
+    "h265_packets/other_unit.rt": {"of"},
     "h26x_access_units/jitter.rt": {"bytes_len"},
+    "h26x_answers/answer.rt": {"Format", "answer_to"},
     "h26x_codec/any_depacketizer.rt": {"run_memory"},
     "h26x_codec/any_packetizer.rt": {"packetize_units"},
     "h26x_codec/any_payload_depacketizer.rt": {"run_memory"},
     "h26x_depacketizer/depacketizer.rt": {"run_memory"},
     "h26x_depacketizer/run.rt": {"memory"},
+    "h26x_packetizer/buffer.rt": {"PacketBuffer::is_empty", "PacketBuffer::iter", "PacketBuffer::push",
+                                  "PacketBuffer::push_all", "PacketBuffer::reserve", "PacketBuffer::with_headroom",
+                                  "PacketBuffer::write_header", "push_packet", "push_packets"},
+    "h26x_packetizer/buffer/loan.rt": {"bytes_mut"},
+    "h26x_packetizer/buffer_packets.rt": {"BufferPackets", "next_bounds"},
     "h26x_packetizer/packetizer.rt": {"codec"},
+    "h26x_profile/bit_pattern.rt": {"new"},
+    "h26x_reorder/buffer.rt": {"copy"},
+    "h26x_reorder/reorder.rt": {"reorder_all"},
     "h26x_rtp_sender/sender.rt": {"send", "send_unit"},
     "h26x_rtp_sender/unit.rt": {"put", "put_all"},
-    "h26x_transmission/carried.rt": {"into_vec"},
+    # The layer has these with its own buffer, and of the codecs whose packets have a largest size alone.
+    "h26x_transmission/packetizer.rt": {"packetize_into", "packetize_unit_into", "packetize_units_into",
+                                        "with_max_packet_size"},
 }
 C, TESTS = "the C library has it", "tests have it"
 # By their files: functions, types, and modules with all that is in them.
 OTHERS = {
-    "h265_packets/other_unit.rt": {"of": TESTS},
-    "h26x_answers/answer.rt": {"Format": TESTS, "answer_to": TESTS},
-    "h26x_assembler/access_unit.rt": {"is_open": TESTS},
-    "h26x_assembler/lib.rt": {"assemble": TESTS},
     "h26x_codec/lib.rt": {"any_packetizer": C},
-    "h26x_depacketizer/lib.rt": {"memory": C},
     "h26x_core/traits.rt": {"marks_talkspurt": TESTS, "nackable": TESTS},
     "h26x_cut/slices.rt": {"next_unit": C},
-    "h26x_packetizer/buffer.rt": {"is_empty": TESTS, "push_all": TESTS, "try_reserve": TESTS, "bytes": C, "packet": C,
-                                  "packet_ends": C, "with_headroom": TESTS, "iter": TESTS, "write_header": TESTS,
-                                  "clear": TESTS, "try_push": TESTS},
-    "h26x_packetizer/buffer/loan.rt": {"bytes_mut": C},
-    "h26x_profile/bit_pattern.rt": {"new": TESTS},
-    "h26x_receiver/lib.rt": {"delivery": TESTS},
-    "h26x_reorder/lib.rt": {"reorder": TESTS},
+    "h26x_depacketizer/lib.rt": {"memory": C},
+    "h26x_packetizer/buffer.rt": {"bytes": C, "clear": C, "packet": C, "packet_ends": C},
     "h26x_rtp_sender/payloads.rt": {"are_in_memory": C},
 }
-TESTED = {"h26x_transmission"}
 
 
 def erase_cases(items):
     """Drops worked cases."""
-    return erased(items, lambda function: not function.answers and function.body is not None
-                  and not bare(function.parameters.items) and not bare(function.body.items))
+    return erased(items, lambda name, owner, function: function is not None and not function.answers
+                  and function.body is not None and not bare(function.parameters.items)
+                  and not bare(function.body.items))
+
+
+def unnamed(crate):
+    """What is dropped that a crate may import: types of any crate, and functions of this one."""
+    return {name for place, names in UNCALLED.items() for name in names
+            if "::" not in name and (name[0].isupper() or place.startswith(crate + "/"))}
 
 
 def erase_uncalled(place, items):
     """Drops what nobody calls."""
-    names = UNCALLED.get(place, set())
-    missing = names - {function.name for function in functions(items)}
-    if missing:
-        raise Refused(f"{place}: no function by the name of: {', '.join(sorted(missing))}")
-    return erased(items, lambda function: function.name in names)
+    names, found = UNCALLED.get(place, set()), set()
+
+    def is_gone(name, owner, _):
+        said = {name, f"{owner}::{name}"} & names
+        found.update(said)
+        return bool(said)
+
+    items = erased(items, is_gone)
+    if names - found:
+        raise Refused(f"{place}: no function by the name of: {', '.join(sorted(names - found))}")
+    return items
 
 
-def erased(items, is_gone):
-    """The items without the functions of which something is so."""
+def erased(items, is_gone, owner=""):
+    """The items without the functions and types of which something is so, by their name and whose they are, and without
+    blocks of which nothing is left."""
     out, i = [], 0
     while i < len(items):
-        if is_function(items, i) and is_gone(Function(items, i)):
+        end = None
+        if is_function(items, i):
+            function = Function(items, i)
+            end = function.end + 1 if is_gone(function.name, owner, function) else None
+        elif is_word(items[i], "struct", "impl") and (block := block_of(items, i)):
+            of = whose(items[after(items, i):block])
+            if is_gone(of, "", None):
+                end = block + 1
+            elif is_word(items[i], "impl"):
+                before_it = bare(items[block].items)
+                items[block].items = erased(items[block].items, is_gone, of)
+                if before_it and not bare(items[block].items):
+                    end = block + 1
+                else:
+                    out += items[i:block + 1]
+                    i = block + 1
+                    continue
+        if end is not None:
             drop_heading(out)
-            i = Function(items, i).end + 1
+            i = end
             continue
         if items[i].kind == "group":
-            items[i].items = erased(items[i].items, is_gone)
+            items[i].items = erased(items[i].items, is_gone, owner)
         out.append(items[i])
         i += 1
     return out
+
+
+def block_of(items, i):
+    """The place of the braces, or of the end, of the item at `i`; None where it is no item."""
+    return next((j for j in range(i, len(items)) if is_group(items[j], "{") or is_sign(items[j], ";")), None)
+
+
+def whose(items):
+    """The name of the type that a heading is of, without parameters."""
+    start = generics_end(items, next(i for i, it in enumerate(items) if not is_trivia(it)))
+    names = bare(items[start:]).split(" for ")[-1].split(" ")
+    return names[0]
 
 
 def mark_others(place, items):

@@ -1,6 +1,6 @@
 //! Access units from packets that a network loses, repeats and reorders.
 
-use crate::proved::h26x_assembler::AccessUnitAssembler as Assembler;
+use crate::proved::h26x_assembler::{self, AccessUnitAssembler as Assembler};
 use crate::proved::h26x_codec::AnyPayloadDepacketizer;
 use crate::proved::h26x_receiver::SequencedDepacketizer;
 use crate::sequenced::{copied, expect_the_same};
@@ -134,6 +134,42 @@ impl AccessUnitAssembler {
         out: &mut Vec<AccessUnit>,
     ) -> Result<Received, PacketError> {
         self.inner.receive(packet, out)
+    }
+
+    /// Takes packets in any order: puts those in order that come within this window of packets, 1 to 2^14, by a
+    /// [`ReorderBuffer`] of its own, which copies none, and answers what became of each that it gave out. One that is
+    /// refused is passed over, and so are those that came too late or twice. [`finish`](Self::finish) gives out what is
+    /// open behind them.
+    ///
+    /// # Errors
+    ///
+    /// `OutOfMemory` alone, where there is none for the packets' order and the answers: nothing was taken then.
+    ///
+    /// # Panics
+    ///
+    /// Where the window is 0 or above 2^14.
+    ///
+    /// ```
+    /// use emupedestal::{AccessUnitAssembler, Codec, Received, RtpPacket};
+    ///
+    /// let mut assembler = AccessUnitAssembler::new(Codec::H264, 4_000_000, 8_000_000);
+    /// // Two fragments of a unit, which come in the other order.
+    /// let last = RtpPacket { sequence: 8, timestamp: 3000, marker: true, payload: &[0x7c, 0x45, 2] };
+    /// let first = RtpPacket { sequence: 7, timestamp: 3000, marker: false, payload: &[0x7c, 0x85, 1] };
+    /// let mut units = Vec::new();
+    /// let answers = assembler.assemble_all(64, &[last, first], &mut units)?;
+    /// assert_eq!(answers, [Ok(Received::InOrder), Ok(Received::InOrder)]);
+    /// assert_eq!(units[0].bytes, [0, 0, 0, 1, 0x65, 1, 2]);
+    /// # Ok::<(), emupedestal::PacketError>(())
+    /// ```
+    #[inline]
+    pub fn assemble_all(
+        &mut self,
+        window: u16,
+        packets: &[RtpPacket<'_>],
+        out: &mut Vec<AccessUnit>,
+    ) -> Result<Vec<Result<Received, PacketError>>, PacketError> {
+        h26x_assembler::assemble_all(&mut self.inner, window, packets, out)
     }
 
     /// Passes over a number that came and bears nothing of the stream, as

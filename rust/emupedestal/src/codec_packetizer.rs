@@ -1,46 +1,9 @@
-//! A packetizer of any codec, or a caller's own.
+//! A packetizer of any codec, or a caller's own: what isn't proved of it, since its calls go to one of a codec.
 
-use crate::{Codec, EveryUnitError, PacketError, Packetizer, Packets, PacketsSize, Packing};
-use crate::{H264Packetizer, H265Packetizer, H266Packetizer};
-use alloc::boxed::Box;
+use crate::{Codec, CodecPacketizer, EveryUnitError, PacketError, Packets, PacketsSize, Packing};
+#[cfg(doc)]
+use crate::{H264Packetizer, H265Packetizer, Packetizer};
 use alloc::vec::Vec;
-use core::panic::UnwindSafe;
-
-/// A packetizer of one of the codecs, or a caller's own in a box. Every call goes to the packetizer
-/// that it holds.
-///
-/// ```
-/// use emupedestal::{Codec, CodecPacketizer, Packetizer};
-///
-/// let mut packetizer = CodecPacketizer::new(Codec::H265);
-/// packetizer.configure_for(Some(1)); // `sprop-max-don-diff=1`
-/// let packets = packetizer.packetize(1200, &[0, 0, 1, 0x26, 0x01, 0xaf])?;
-/// assert_eq!(packets, [[0x26, 0x01, 0x00, 0x00, 0xaf]]);
-/// # Ok::<(), emupedestal::PacketError>(())
-/// ```
-#[derive(Debug)]
-pub enum CodecPacketizer {
-    /// Sends H.264 (RFC 6184).
-    H264(H264Packetizer),
-    /// Sends H.265 (RFC 7798).
-    H265(H265Packetizer),
-    /// Sends H.266 (RFC 9328).
-    H266(H266Packetizer),
-    /// A caller's own packetizer.
-    Boxed(Box<dyn Packetizer + Send + Sync + UnwindSafe>),
-}
-
-/// A call to the packetizer within, whichever it is.
-macro_rules! within {
-    ($packetizer:expr, $it:ident => $call:expr) => {
-        match $packetizer {
-            CodecPacketizer::H264($it) => $call,
-            CodecPacketizer::H265($it) => $call,
-            CodecPacketizer::H266($it) => $call,
-            CodecPacketizer::Boxed($it) => $call,
-        }
-    };
-}
 
 /// What a call to the packetizer of a codec answers; `None` of one in a box, whose trait has no such call.
 macro_rules! unless_boxed {
@@ -55,31 +18,18 @@ macro_rules! unless_boxed {
 }
 
 impl CodecPacketizer {
-    /// A packetizer of a codec for which nothing waits, without decoding order numbers, and with 1200
-    /// bytes as the largest packet size of H.265 and H.266.
-    pub fn new(codec: Codec) -> Self {
-        match codec {
-            Codec::H264 => CodecPacketizer::H264(H264Packetizer::default()),
-            Codec::H265 => CodecPacketizer::H265(H265Packetizer::default()),
-            Codec::H266 => CodecPacketizer::H266(H266Packetizer::default()),
-        }
-    }
-
-    /// Sets decoding order numbers (DONL and DOND) up by `sprop-max-don-diff` of a session
-    /// description, the greatest distance between decoding and sending order (RFC 7798, 7.1; RFC 9328,
-    /// 7.2).
-    ///
-    /// Where it is over 0, units of H.265 and H.266 bear numbers from then on, which begin at 0, and
-    /// parameter sets that wait stay. `None` and 0 change nothing, and neither does any value for H.264
-    /// or a packetizer in a box.
-    pub fn configure_for(&mut self, sprop_max_don_diff: Option<u32>) {
-        if sprop_max_don_diff.unwrap_or(0) > 0 {
-            self.with_donl(true);
-        }
-    }
-
     /// Turns decoding order numbers of H.265 and H.266 on, from 0, or off, as
     /// [`H265Packetizer::with_donl`] tells. For H.264 and a packetizer in a box it changes nothing.
+    ///
+    /// ```
+    /// use emupedestal::{Codec, CodecPacketizer, Packetizer};
+    ///
+    /// let mut packetizer = CodecPacketizer::new(Codec::H265);
+    /// packetizer.with_donl(true); // or `configure_for(Some(1))`, by `sprop-max-don-diff=1`
+    /// let packets = packetizer.packetize(1200, &[0, 0, 1, 0x26, 0x01, 0xaf])?;
+    /// assert_eq!(packets, [[0x26, 0x01, 0x00, 0x00, 0xaf]]);
+    /// # Ok::<(), emupedestal::PacketError>(())
+    /// ```
     pub fn with_donl(&mut self, has_donl: bool) {
         match self {
             CodecPacketizer::H265(it) => it.with_donl(has_donl),
@@ -145,17 +95,6 @@ impl CodecPacketizer {
         unless_boxed!(self, it => it.packets_size(mtu, b, headroom))
     }
 
-    /// The RTP payloads of one NAL unit as it is, as [`H264Packetizer::packetize_unit`] makes them. One
-    /// in a box is given the unit as a payload.
-    pub fn packetize_unit(&mut self, mtu: usize, unit: &[u8]) -> Result<Vec<Vec<u8>>, PacketError> {
-        match self {
-            CodecPacketizer::H264(it) => it.packetize_unit(mtu, unit),
-            CodecPacketizer::H265(it) => it.packetize_unit(mtu, unit),
-            CodecPacketizer::H266(it) => it.packetize_unit(mtu, unit),
-            CodecPacketizer::Boxed(it) => it.packetize(mtu, unit),
-        }
-    }
-
     /// The packets of [`packetize_unit`](Self::packetize_unit) in the place of those in `packets`, as
     /// [`packetize_into`](Self::packetize_into) has it.
     pub fn packetize_unit_into(
@@ -175,18 +114,6 @@ impl CodecPacketizer {
         }
     }
 
-    /// The RTP payloads of every NAL unit of one access unit, as
-    /// [`H264Packetizer::packetize_units`] makes and refuses them. `None` of one in a box, whose trait
-    /// has no such call: nothing is done.
-    pub fn packetize_units(
-        &mut self,
-        packing: Packing,
-        mtu: usize,
-        units: &[&[u8]],
-    ) -> Result<Option<Vec<Vec<u8>>>, EveryUnitError> {
-        unless_boxed!(self, it => it.packetize_units(packing, mtu, units))
-    }
-
     /// The packets of [`packetize_units`](Self::packetize_units) in the place of those in `packets`, as
     /// [`packetize_into`](Self::packetize_into) has it. Of one in a box `packets` has none then.
     pub fn packetize_units_into(
@@ -202,18 +129,6 @@ impl CodecPacketizer {
         unless_boxed!(self, it => it.packetize_units_into(packing, mtu, units, packets))
     }
 
-    /// How many packets [`packetize_units_into`](Self::packetize_units_into) would make of units, and
-    /// how many bytes they take, as [`H264Packetizer::units_size`] says it; `None` of one in a box.
-    pub fn units_size(
-        &self,
-        packing: Packing,
-        mtu: usize,
-        units: &[&[u8]],
-        headroom: usize,
-    ) -> Result<Option<PacketsSize>, EveryUnitError> {
-        unless_boxed!(self, it => it.units_size(packing, mtu, units, headroom))
-    }
-
     /// Sets whether the calls that take an access unit send delimiters and filler data, as
     /// [`H264Packetizer::with_delimiters`] tells. For a packetizer in a box it changes nothing.
     pub fn with_delimiters(&mut self, delimiters: bool) {
@@ -225,7 +140,7 @@ impl CodecPacketizer {
         }
     }
 
-    /// The same of one access unit in Annex B form, as [`H264Packetizer::packetize_access_unit`] makes
+    /// The RTP payloads of the units of one access unit in Annex B form, as [`H264Packetizer::packetize_access_unit`] makes
     /// and refuses them; `None` of one in a box: nothing is done.
     pub fn packetize_access_unit(
         &mut self,
@@ -269,23 +184,5 @@ impl CodecPacketizer {
 impl From<Codec> for CodecPacketizer {
     fn from(codec: Codec) -> Self {
         CodecPacketizer::new(codec)
-    }
-}
-
-impl Packetizer for CodecPacketizer {
-    fn packetize(&mut self, mtu: usize, b: &[u8]) -> Result<Vec<Vec<u8>>, PacketError> {
-        within!(self, it => it.packetize(mtu, b))
-    }
-
-    fn is_marker(&mut self, data: &[u8], previous: Option<&[u8]>, last: bool) -> bool {
-        within!(self, it => it.is_marker(data, previous, last))
-    }
-
-    fn marks_talkspurt(&self) -> bool {
-        within!(self, it => it.marks_talkspurt())
-    }
-
-    fn nackable(&self) -> bool {
-        within!(self, it => it.nackable())
     }
 }

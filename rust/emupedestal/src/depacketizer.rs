@@ -22,14 +22,10 @@ macro_rules! depacketizer {
             inner: $proved,
         }
 
-        /// A depacketizer with no unit open, which writes start codes and reads no decoding order
-        /// numbers.
+        /// As [`new`](Self::new).
         impl Default for $name {
             fn default() -> Self {
-                $name {
-                    is_avc: false,
-                    inner: <$proved>::new(),
-                }
+                $name::new()
             }
         }
 
@@ -43,6 +39,16 @@ macro_rules! depacketizer {
         }
 
         impl $name {
+            /// A depacketizer with no unit open, which writes start codes and reads no decoding order
+            /// numbers.
+            #[inline]
+            pub fn new() -> Self {
+                $name {
+                    is_avc: false,
+                    inner: <$proved>::new(),
+                }
+            }
+
             /// How many bytes of data the open unit holds; 0 where none is open.
             pub fn run_len(&self) -> usize {
                 self.inner.run_len()
@@ -78,10 +84,7 @@ macro_rules! depacketizer {
                 out: &mut Vec<u8>,
                 codec_extra: &mut CodecExtra,
             ) -> Result<(), PacketError> {
-                self.inner.is_avc = self.is_avc;
-                let taken = self.inner.depacketize(packet, out, codec_extra);
-                self.inner.is_avc = false;
-                taken
+                self.take(packet, out, codec_extra)
             }
 
             fn is_partition_head(&self, packet: &[u8]) -> bool {
@@ -152,6 +155,46 @@ depacketizer! {
     /// ```
     H266Depacketizer, h266_payload::H266Depacketizer
 }
+
+impl H265Depacketizer {
+    #[inline(always)]
+    fn take(
+        &mut self,
+        packet: &[u8],
+        out: &mut Vec<u8>,
+        codec_extra: &mut CodecExtra,
+    ) -> Result<(), PacketError> {
+        self.inner.is_avc = self.is_avc;
+        let taken = self.inner.depacketize(packet, out, codec_extra);
+        self.inner.is_avc = false;
+        taken
+    }
+}
+
+/// Each form has code of its own, without a branch on it. Of H.265 that is dearer: what it shows is got ready
+/// behind calls then.
+macro_rules! each_form_apart {
+    ($name:ident) => {
+        impl $name {
+            #[inline(always)]
+            fn take(
+                &mut self,
+                packet: &[u8],
+                out: &mut Vec<u8>,
+                codec_extra: &mut CodecExtra,
+            ) -> Result<(), PacketError> {
+                if self.is_avc {
+                    self.inner.depacketize_as(true, packet, out, codec_extra)
+                } else {
+                    self.inner.depacketize_as(false, packet, out, codec_extra)
+                }
+            }
+        }
+    };
+}
+
+each_form_apart!(H264Depacketizer);
+each_form_apart!(H266Depacketizer);
 
 macro_rules! numbered {
     ($name:ident) => {

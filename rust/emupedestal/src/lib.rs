@@ -33,10 +33,10 @@
 //! network is always, give them to a [`SequencedDepacketizer`] with their sequence numbers: it writes
 //! no unit of which a packet is missing, and no peer makes it hold more than a limit and a packet.
 //!
-//! [`CodecPacketizer`] and [`CodecDepacketizer`] are those of a codec that is chosen while the program
-//! runs, or a caller's own in a box; [`take_all`] gives many packets to one. [`H264ProfileLevel`],
-//! [`H265ProfileTierLevel`] and [`H266ProfileTierLevel`] read profiles and levels out of SDP, and with the feature
-//! `sdp` the module `sdp` all parameters of a format.
+//! [`CodecPacketizer`] and [`CodecDepacketizer`] are those of a codec that is chosen while the program runs, or a
+//! caller's own in a box; [`take_all`] gives many packets to one, and [`transmission`] has payloads go through both
+//! ends. [`H264ProfileLevel`], [`H265ProfileTierLevel`] and [`H266ProfileTierLevel`] read profiles and levels out of SDP,
+//! and with the feature `sdp` the module `sdp` all parameters of a format.
 //!
 //! An [`AccessUnitReceiver`] takes packets as a network brings them and gives out pictures, each with what is
 //! known of it. It is a [`ReorderBuffer`], which puts packets in their order, and an [`AccessUnitAssembler`] behind it.
@@ -146,15 +146,13 @@ pub mod sdp;
 mod sequenced;
 mod shown;
 mod support;
-mod take_all;
+pub mod transmission;
 
 #[cfg(all(test, feature = "std"))]
 mod tests;
 
 pub use access_unit_receiver::{AccessUnitConfig, AccessUnitReceiver, NackTimes};
 pub use assembler::AccessUnitAssembler;
-pub use codec_depacketizer::CodecDepacketizer;
-pub use codec_packetizer::CodecPacketizer;
 pub use depacketizer::{H264Depacketizer, H265Depacketizer, H266Depacketizer};
 pub use look::{Units, detect_keyframe, set_lowest_header, units};
 pub use packet::{Depacketizer, Packetizer};
@@ -182,6 +180,7 @@ pub use proved::h26x_receiver::Received;
 pub use proved::h26x_reorder::{
     HeldPacket, NotHeld, NotHeldReason, Pushed, ReorderBuffer, RtpPacket,
 };
+pub use proved::h26x_transmission::{CodecDepacketizer, CodecPacketizer};
 pub use proved::h264_payload::{detect_h264_keyframe, detect_h264_nalu};
 pub use proved::h265_packets::{
     H265AggregationPacket, H265AggregationUnit, H265AggregationUnitFirst,
@@ -190,7 +189,7 @@ pub use proved::h265_packets::{
 pub use proved::h265_payload::detect_h265_keyframe;
 pub use proved::h266_payload::detect_h266_keyframe;
 pub use sequenced::SequencedDepacketizer;
-pub use take_all::take_all;
+pub use transmission::take_all;
 
 /// The examples of the package's README are run as those of this page.
 #[cfg(doctest)]

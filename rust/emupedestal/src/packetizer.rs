@@ -44,12 +44,10 @@ macro_rules! packetizer {
             delimiters: bool,
         }
 
+        /// As [`new`](Self::new).
         impl Default for $name {
             fn default() -> Self {
-                $name {
-                    inner: PayloadPacketizer::new(),
-                    delimiters: true,
-                }
+                $name::new()
             }
         }
 
@@ -63,6 +61,15 @@ macro_rules! packetizer {
         }
 
         impl $name {
+            /// A packetizer for which nothing waits, without decoding order numbers.
+            #[inline]
+            pub fn new() -> Self {
+                $name {
+                    inner: PayloadPacketizer::new(),
+                    delimiters: true,
+                }
+            }
+
             /// The RTP payloads of `b` as [`Packetizer::packetize`] makes them, in the place of those
             /// in `packets`, whose memory is used again.
             ///

@@ -26,5 +26,4 @@ pub mod h26x_rtp_sender;
 pub mod h26x_sdp;
 #[cfg(feature = "sdp")]
 pub mod h26x_stream_parameters;
-#[cfg(test)]
 pub mod h26x_transmission;

@@ -118,6 +118,7 @@ impl RtpReceiver {
     /// [`follow`](Self::follow).
     ///
     /// After an error all stays as it was.
+    #[inline]
     pub fn push(
         &mut self,
         now: u32,
@@ -129,6 +130,7 @@ impl RtpReceiver {
 
     /// The next access unit, if one has ended at this tick. Call it until there is none. The error is `OutOfMemory`
     /// alone: the packet for which memory lacks is due still.
+    #[inline]
     pub fn next(&mut self, now: u32) -> Result<Option<ReceivedAccessUnit>, PacketError> {
         self.inner.next(now)
     }
@@ -202,6 +204,7 @@ impl RtpReceiver {
     }
 
     /// Takes an access unit's memory back, for a later one.
+    #[inline]
     pub fn give_back(&mut self, unit: ReceivedAccessUnit) {
         self.inner.give_back(unit);
     }

@@ -2,7 +2,7 @@
 
 use crate::proved::h26x_codec::AnyDepacketizer;
 use crate::proved::h26x_depacketizer::RunDepacketizer;
-use crate::proved::h26x_receiver::SequencedDepacketizer as Sequenced;
+use crate::proved::h26x_receiver::{self, SequencedDepacketizer as Sequenced};
 use crate::{Codec, CodecExtra, H265Payload, PacketError, Received};
 use alloc::vec::Vec;
 
@@ -156,6 +156,34 @@ impl SequencedDepacketizer {
         codec_extra: &mut CodecExtra,
     ) -> Result<Received, PacketError> {
         self.inner.receive(sequence, packet, out, codec_extra)
+    }
+
+    /// Takes packets with their sequence numbers, one after the other as by [`receive`](Self::receive), and answers
+    /// what became of each. One that is refused is passed over.
+    ///
+    /// # Errors
+    ///
+    /// `OutOfMemory` alone, where there is none for the answers: nothing was taken then.
+    ///
+    /// ```
+    /// use emupedestal::{Codec, CodecExtra, PacketError, Received, SequencedDepacketizer};
+    ///
+    /// let mut receiver = SequencedDepacketizer::new(Codec::H264, 4_000_000);
+    /// let (mut out, mut extra) = (Vec::new(), CodecExtra::None);
+    /// let packets: [(u16, &[u8]); 3] = [(7, &[0x61, 9]), (9, &[0x7c]), (9, &[0x61, 8])];
+    /// let answers = receiver.receive_all(&packets, &mut out, &mut extra)?;
+    /// let wanted = [Ok(Received::InOrder), Err(PacketError::ErrShortPacket), Ok(Received::Gap(1))];
+    /// assert_eq!(answers, wanted);
+    /// assert_eq!(out, [0, 0, 0, 1, 0x61, 9, 0, 0, 0, 1, 0x61, 8]);
+    /// # Ok::<(), PacketError>(())
+    /// ```
+    pub fn receive_all(
+        &mut self,
+        packets: &[(u16, impl AsRef<[u8]>)],
+        out: &mut Vec<u8>,
+        codec_extra: &mut CodecExtra,
+    ) -> Result<Vec<Result<Received, PacketError>>, PacketError> {
+        h26x_receiver::receive_all(&mut self.inner, packets, out, codec_extra)
     }
 
     /// Passes over a number that came and bears nothing of the stream, as that of padding alone, of

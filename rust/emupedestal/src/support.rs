@@ -210,6 +210,18 @@ impl<T> TryDeque<T> for VecDeque<T> {
     }
 }
 
+/// Packets of so many bytes, which aren't shown.
+#[allow(dead_code, reason = "the C library has no type with packets")]
+pub struct Counts<'a>(pub &'a [Vec<u8>]);
+
+impl fmt::Debug for Counts<'_> {
+    fn fmt(&self, f: &mut fmt::Formatter<'_>) -> fmt::Result {
+        f.debug_list()
+            .entries(self.0.iter().map(|it| Count(it.len())))
+            .finish()
+    }
+}
+
 /// So many bytes, which aren't shown.
 pub struct Count(pub usize);
 

@@ -10,7 +10,7 @@ mod stap;
 
 pub use crate::proved::h26x_core::ANNEXB_NALUSTART_CODE;
 pub use crate::proved::h26x_packetizer::{
-    BufferMemory, BufferPackets, EveryUnitError, PacketBuffer, Packing, RefusedUnit, WhyRefused,
+    BufferMemory, EveryUnitError, PacketBuffer, Packing, RefusedUnit, WhyRefused,
 };
 pub use codec::H264;
 pub use depacketizer::H264Depacketizer;

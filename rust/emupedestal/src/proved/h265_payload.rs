@@ -18,7 +18,7 @@ mod spare;
 
 pub use crate::proved::h26x_core::ANNEXB_NALUSTART_CODE;
 pub use crate::proved::h26x_packetizer::{
-    BufferMemory, BufferPackets, EveryUnitError, PacketBuffer, Packing, RefusedUnit, WhyRefused,
+    BufferMemory, EveryUnitError, PacketBuffer, Packing, RefusedUnit, WhyRefused,
 };
 pub use crate::proved::h265_packets::{
     H265AggregationPacket, H265AggregationUnit, H265AggregationUnitFirst,

@@ -12,7 +12,7 @@ mod packetizer;
 
 pub use crate::proved::h26x_core::ANNEXB_NALUSTART_CODE;
 pub use crate::proved::h26x_packetizer::{
-    BufferMemory, BufferPackets, EveryUnitError, PacketBuffer, Packing, RefusedUnit, WhyRefused,
+    BufferMemory, EveryUnitError, PacketBuffer, Packing, RefusedUnit, WhyRefused,
 };
 pub use codec::H266;
 pub use depacketizer::H266Depacketizer;

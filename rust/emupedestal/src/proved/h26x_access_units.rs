@@ -16,6 +16,7 @@ mod numbers;
 mod passed;
 mod pushed;
 mod receiver;
+mod short;
 mod unit;
 mod way;
 

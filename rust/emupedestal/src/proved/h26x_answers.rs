@@ -11,9 +11,9 @@ mod direction;
 mod fault;
 
 pub use agreed::{Agreed, AgreedSets, AgreedStream, CodecStreams, agreed_streams};
+pub(crate) use answer::answer_format;
 pub use answer::h264::sets_of_level;
-pub use answer::{AnswerConfig, AnswerRules, CodecRules, Format, Role, Terms, own_fault};
-pub(crate) use answer::{answer_format, answer_to};
+pub use answer::{AnswerConfig, AnswerRules, CodecRules, Role, Terms, own_fault};
 pub use declared::{CodecDeclared, accepts_declared};
 pub use direction::{Direction, Usage};
 pub use fault::FormatFault;

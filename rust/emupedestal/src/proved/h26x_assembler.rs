@@ -4,7 +4,6 @@
 //! puts in that order, by their timestamps and markers (RFC 3550, 5.1).
 mod access_unit;
 mod answers;
-#[allow(dead_code, reason = "tests have it")]
 mod assemble;
 mod assembler;
 mod spare;

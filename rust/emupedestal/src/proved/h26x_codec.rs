@@ -12,7 +12,7 @@ mod keyframe;
 mod plain;
 
 pub use crate::proved::h26x_packetizer::{
-    BufferMemory, BufferPackets, EveryUnitError, PacketBuffer, Packing, RefusedUnit, WhyRefused,
+    BufferMemory, EveryUnitError, PacketBuffer, Packing, RefusedUnit, WhyRefused,
 };
 pub use any_depacketizer::AnyDepacketizer;
 pub use any_packetizer::AnyPacketizer;

@@ -21,7 +21,6 @@
 //! ```
 mod body;
 mod buffer;
-mod buffer_packets;
 mod every;
 mod every_format;
 mod every_unit;
@@ -41,7 +40,6 @@ mod update;
 
 pub use buffer::PacketBuffer;
 pub use buffer::memory::BufferMemory;
-pub use buffer_packets::BufferPackets;
 pub(crate) use every_format::EveryFormat;
 pub use every_unit::EveryUnitError;
 pub use lowest_header::LowestHeaderFormat;

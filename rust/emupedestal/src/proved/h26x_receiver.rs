@@ -1,6 +1,5 @@
 // Made from crates/h26x_receiver/src/lib.rt by tools/to-rust.
 
-#[allow(dead_code, reason = "tests have it")]
 mod delivery;
 mod received;
 mod sequenced;

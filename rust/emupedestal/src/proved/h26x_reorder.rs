@@ -8,11 +8,10 @@ mod order;
 mod packet;
 mod parted;
 mod pushed;
-#[allow(dead_code, reason = "tests have it")]
 mod reorder;
 mod spare;
 
 pub use buffer::{HeldPacket, NotHeld, NotHeldReason, ReorderBuffer};
 pub use packet::RtpPacket;
 pub use pushed::Pushed;
-pub(crate) use reorder::{ordered, reorder_all};
+pub(crate) use reorder::ordered;

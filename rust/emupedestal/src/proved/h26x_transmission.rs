@@ -10,7 +10,7 @@ mod repeated;
 mod take;
 mod transmissions;
 
-pub use carried::{Carried, Marks, Packets};
+pub use carried::Carried;
 pub use depacketizer::CodecDepacketizer;
 pub use packetizer::CodecPacketizer;
 pub use repeated::{Repeated, again};

@@ -59,7 +59,7 @@ impl Receiver {
         let before = (self.it.unit.clone(), self.it.packets.expected);
         let kept = |it: &Self| it.it.unit == before.0 && it.it.packets.expected == before.1;
         some_refused(|| assert_eq!(insist(self, |it| it.it.finish(&mut it.out), kept), Ok(())));
-        assert!(!self.it.unit.is_open() && self.it.packets.expected.is_none());
+        assert!(self.it.unit.units_so_far().is_none() && self.it.packets.expected.is_none());
     }
 }
 
@@ -195,7 +195,7 @@ fn a_list() {
 fn receivers_without_memory() {
     without_memory(|| {
         let mut it = Receiver::new(Codec::H264);
-        assert!(!it.it.unit.is_open() && it.it.unit.bytes_len() == 0);
+        assert!(it.it.unit.units_so_far().is_none() && it.it.unit.bytes_len() == 0);
         it.it.restart();
         assert!(it.out.is_empty());
     });

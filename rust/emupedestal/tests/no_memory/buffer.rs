@@ -1,9 +1,7 @@
-//! Packets that are appended to one buffer, and units that are sent as they are.
+//! Packets that are appended to one buffer.
 
 use crate::PacketError;
-use crate::proved::h26x_codec::{Codec, PacketBuffer};
-use crate::proved::h26x_transmission::CodecPacketizer;
-use crate::proved::h264_payload::H264Packetizer;
+use crate::proved::h26x_codec::{AnyPacketizer, Codec, PacketBuffer};
 use crate::refusing::{insist, some_refused, within_bytes, without_memory};
 use crate::{h264, h265, h266};
 
@@ -19,24 +17,22 @@ enum How {
 /// How bytes are sent, a limit, and the bytes.
 type Step = (How, usize, &'static [u8]);
 
-/// The codec of a packetizer and what it is configured for, steps, and the packets of all of them.
+/// The codec of a packetizer and whether it numbers units, steps, and the packets of all of them.
 struct Run {
     codec: Codec,
-    max_don_diff: Option<u32>,
+    has_donl: bool,
     steps: &'static [Step],
     packets: &'static [&'static [u8]],
 }
 
 /// The packetizer of a run.
-fn packetizer(run: &Run) -> CodecPacketizer {
-    let mut packetizer = CodecPacketizer::new(run.codec);
-    packetizer.configure_for(run.max_don_diff);
-    packetizer
+fn packetizer(run: &Run) -> AnyPacketizer {
+    AnyPacketizer::new(run.codec, run.has_donl)
 }
 
 /// Appends the packets of a step.
 fn append(
-    it: &mut CodecPacketizer,
+    it: &mut AnyPacketizer,
     &(how, mtu, bytes): &Step,
     into: &mut PacketBuffer,
 ) -> Result<(), PacketError> {
@@ -56,7 +52,7 @@ fn packets_of(buffer: &PacketBuffer) -> Vec<&[u8]> {
 /// Appends the packets of a run, each request refused before, and compares them. A refusal leaves those that stood
 /// there. What waits, and the next number, show in those of later steps.
 #[track_caller]
-fn append_run(mut it: CodecPacketizer, run: &Run) {
+fn append_run(mut it: AnyPacketizer, run: &Run) {
     let mut buffer = PacketBuffer::new(12);
     some_refused(|| {
         for step in run.steps {
@@ -72,7 +68,7 @@ fn append_run(mut it: CodecPacketizer, run: &Run) {
 /// A PPS and a unit in fragments, an SPS as it is and one that waits, and the sets before a unit.
 const H264: Run = Run {
     codec: Codec::H264,
-    max_don_diff: None,
+    has_donl: false,
     steps: &[
         (
             How::Payload,
@@ -98,7 +94,7 @@ const H264: Run = Run {
 /// Sets that wait, a unit as it is, and the sets before a unit.
 const H265: Run = Run {
     codec: Codec::H265,
-    max_don_diff: None,
+    has_donl: false,
     steps: &[
         (
             How::Payload,
@@ -124,7 +120,7 @@ const H265: Run = Run {
 /// Units with numbers.
 const H265_NUMBERED: Run = Run {
     codec: Codec::H265,
-    max_don_diff: Some(1),
+    has_donl: true,
     steps: &[
         (How::Payload, 5, &[2, 1, 0xaa]),
         (How::Unit, 6, &[2, 1, 0xaa, 0xbb, 0xcc]),
@@ -141,7 +137,7 @@ const H265_NUMBERED: Run = Run {
 /// Sets that wait, a unit as it is, and the sets before a unit.
 const H266: Run = Run {
     codec: Codec::H266,
-    max_don_diff: None,
+    has_donl: false,
     steps: &[
         (
             How::Payload,
@@ -163,7 +159,7 @@ const H266: Run = Run {
 /// Units with numbers.
 const H266_NUMBERED: Run = Run {
     codec: Codec::H266,
-    max_don_diff: Some(1),
+    has_donl: true,
     steps: &[
         (How::Payload, 5, &[0, 9, 0xaa]),
         (How::Unit, 6, &[0, 9, 0xaa, 0xbb, 0xcc]),
@@ -184,57 +180,6 @@ fn packets_appended() {
     for run in &RUNS {
         append_run(packetizer(run), run);
     }
-}
-
-/// Sends a unit as it is, each request refused before.
-fn send_unit(it: &mut CodecPacketizer, mtu: usize, unit: &[u8]) -> Vec<Vec<u8>> {
-    insist(it, |it| it.packetize_unit(mtu, unit), |_| true).expect("packets")
-}
-
-/// A unit alone and one in fragments, as they are, with numbers.
-#[test]
-fn units_as_they_are() {
-    let mut it = packetizer(&H265_NUMBERED);
-    let packets = H265_NUMBERED.packets;
-    some_refused(|| assert_eq!(send_unit(&mut it, 5, &[2, 1, 0xaa]), packets[..1]));
-    let unit = [2, 1, 0xaa, 0xbb, 0xcc];
-    some_refused(|| assert_eq!(send_unit(&mut it, 6, &unit), packets[1..3]));
-}
-
-/// Packets are pushed, the first alone and then the others together; a refusal leaves those before.
-#[test]
-fn packets_pushed() {
-    let made = send_unit(&mut packetizer(&H265), 4, &[0x26, 1, 0xaa, 0xbb, 0xcc]);
-    let mut buffer = PacketBuffer::new(12);
-    some_refused(|| {
-        let answer = insist(&mut buffer, |it| it.try_push(&made[0]), |it| it.is_empty());
-        assert_eq!(answer, Ok(()));
-    });
-    some_refused(|| {
-        let kept = |it: &PacketBuffer| packets_of(it) == H265.packets[..1];
-        assert_eq!(
-            insist(&mut buffer, |it| it.push_all(&made[1..]), kept),
-            Ok(())
-        );
-    });
-    assert_eq!(packets_of(&buffer), H265.packets[..3]);
-}
-
-/// Fragments and a unit out of a box, behind each other.
-const OUT_OF_A_BOX: Run = Run {
-    codec: Codec::H264,
-    max_don_diff: None,
-    steps: &[
-        (How::Payload, 5, &[0x65, 1, 2, 3, 4, 5, 6]),
-        (How::Unit, 1200, &[0x41, 1]),
-    ],
-    packets: &[&[0x7c, 0x85, 1, 2, 3], &[0x7c, 0x45, 4, 5, 6], &[0x41, 1]],
-};
-
-#[test]
-fn packets_out_of_a_box_appended() {
-    let it = CodecPacketizer::Boxed(Box::new(H264Packetizer::new()));
-    append_run(it, &OUT_OF_A_BOX);
 }
 
 /// A long unit and many short ones are appended, and no list is asked for that is more than twice as long as what comes
@@ -277,13 +222,11 @@ fn append_nothing(run: &Run, payloads: &[(usize, &[u8])], units: &[(usize, &[u8]
     for (mtu, unit) in units {
         let answer = without_memory(|| it.packetize_unit_into(*mtu, unit, &mut buffer));
         assert_eq!(answer, Ok(()));
-        let packets = without_memory(|| it.packetize_unit(*mtu, unit));
-        assert_eq!(packets.as_deref(), Ok(&[][..]));
     }
     without_memory(|| {
         buffer.truncate(0);
         buffer.clear();
-        assert!(buffer.is_empty() && buffer.headroom() == 12 && buffer.packet_ends().is_empty());
+        assert!(buffer.len() == 0 && buffer.headroom() == 12 && buffer.packet_ends().is_empty());
     });
 }
 
@@ -310,8 +253,7 @@ fn nothing_appended_without_memory() {
 /// Appends the packets of these steps to a buffer, and once more where it is cleared: what is kept since takes them.
 #[track_caller]
 fn fill_again(codec: Codec, steps: &[Step]) {
-    let mut it = CodecPacketizer::new(codec);
-    it.configure_for(Some(1));
+    let mut it = AnyPacketizer::new(codec, true);
     let mut buffer = PacketBuffer::new(12);
     let mut fill = || {
         buffer.clear();

@@ -9,7 +9,7 @@ use crate::proved::h26x_transmission::{
 use crate::proved::h264_payload::{H264Depacketizer, H264Packetizer};
 use crate::proved::h265_payload::H265Depacketizer;
 use crate::proved::h266_payload::H266Depacketizer;
-use crate::refusing::{insist_on, refused_at, some_refused, without_memory};
+use crate::refusing::{insist, insist_on, refused_at, some_refused, without_memory};
 use crate::{h264, h265, h266};
 
 /// Sends payloads of which nothing is sent, without numbers and then with them where there may be some, and asks about
@@ -19,7 +19,6 @@ fn ask_to_send(mut it: CodecPacketizer, unsent: &[(usize, &[u8])], packet: &[u8]
     send_nothing(&mut it, unsent);
     without_memory(|| {
         it.configure_for(Some(1));
-        it.with_max_packet_size(1400);
     });
     send_nothing(&mut it, unsent);
     ask_packetizer(&mut it, packet);
@@ -33,6 +32,24 @@ fn sending_without_memory() {
     ask_to_send(new(Codec::H266), &h266::UNSENT, &[0]);
     let boxed = CodecPacketizer::Boxed(Box::new(H264Packetizer::new()));
     ask_to_send(boxed, &h264::UNSENT, &[0x65]);
+}
+
+/// Sends a unit as it is, each request refused before.
+fn send_unit(it: &mut CodecPacketizer, mtu: usize, unit: &[u8]) -> Vec<Vec<u8>> {
+    insist(it, |it| it.packetize_unit(mtu, unit), |_| true).expect("packets")
+}
+
+/// A unit alone and one in fragments, as they are, with numbers; and one without a whole header.
+#[test]
+fn units_as_they_are() {
+    let mut it = CodecPacketizer::new(Codec::H265);
+    it.configure_for(Some(1));
+    some_refused(|| assert_eq!(send_unit(&mut it, 5, &[2, 1, 0xaa]), [[2, 1, 0, 0, 0xaa]]));
+    let unit = [2, 1, 0xaa, 0xbb, 0xcc];
+    let packets: [&[u8]; 2] = [&[0x62, 1, 0x81, 0, 1, 0xaa], &[0x62, 1, 0x41, 0xbb, 0xcc]];
+    some_refused(|| assert_eq!(send_unit(&mut it, 6, &unit), packets));
+    let none = without_memory(|| it.packetize_unit(1500, &[2]));
+    assert_eq!(none.as_deref(), Ok(&[][..]));
 }
 
 /// Takes packets of which nothing is kept or written, and asks about another.

@@ -58,4 +58,10 @@ mod proved {
 #[path = "../../src/support.rs"]
 mod support;
 
-use proved::h26x_core::PacketError;
+// What the modules name as callers have it: here as it is proved.
+use proved::h26x_codec::{Codec, EveryUnitError, Packing};
+use proved::h26x_core::{CodecExtra, Depacketizer, PacketError, Packetizer};
+use proved::h26x_packetizer::PacketsSize;
+use proved::h264_payload::{H264Depacketizer, H264Packetizer};
+use proved::h265_payload::{H265Depacketizer, H265Packetizer};
+use proved::h266_payload::{H266Depacketizer, H266Packetizer};

@@ -26,7 +26,8 @@ fn numbers_of_h264() {
         assert!(read == (Ok(H264ProfileIdc::XF4), Err(())));
         assert!(H264LevelIdc::Level1 < H264LevelIdc::Level1B);
         assert!(H264LevelIdc::Level5_2.ordinal() == 16);
-        assert!(BitPattern::new(*b"x1xx0000").matches(0x40));
+        let places = *b"x1xx0000";
+        assert!(BitPattern { places }.matches(0x40));
     });
 }
 

@@ -2,7 +2,7 @@
 //! again.
 
 use crate::proved::h26x_reorder::{
-    HeldPacket, NotHeldReason, Pushed, ReorderBuffer, RtpPacket, reorder_all,
+    HeldPacket, NotHeldReason, Pushed, ReorderBuffer, RtpPacket, ordered,
 };
 use crate::refusing::{insist_on, insist_or_go_on, refused_at, some_refused, without_memory};
 
@@ -166,8 +166,8 @@ fn packets_held_by_value() {
 fn a_list() {
     let packets = [9, 7, 8, 9, 11].map(packet_of);
     some_refused(|| {
-        let out = insist_on(|| reorder_all(4, &packets)).expect("packets");
-        let numbers: Vec<u16> = out.iter().map(|held| held.sequence).collect();
+        let out = insist_on(|| ordered(4, &packets)).expect("packets");
+        let numbers: Vec<u16> = out.iter().map(|packet| packet.sequence).collect();
         assert_eq!(numbers, [7, 8, 9, 11]);
     });
 }

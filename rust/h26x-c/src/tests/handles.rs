@@ -1,6 +1,6 @@
 //! The numbers by which calls answer, and copies into a caller's memory.
 
-use crate::proved::h26x_codec::{Codec, PacketBuffer};
+use crate::proved::h26x_codec::{AnyPacketizer, Codec, PacketBuffer};
 use crate::proved::h26x_codes::code::{
     NOT_OF_THIS_CODEC, Refusal, UNKNOWN_CODEC, code_of, codec_of, codec_wanted, extra_of,
     number_of, numbers_of,
@@ -134,6 +134,7 @@ fn as_many_packets_as_there_is_room_for() {
     let of = |packets: &[&[u8]]| packets.iter().map(|it| it.to_vec()).collect::<Vec<_>>();
     let (two_one, two_two) = (of(&[&[1, 2], &[3]]), of(&[&[1, 2], &[3, 4]]));
     let (three, one) = (of(&[&[1, 2], &[3], &[4, 5]]), of(&[&[1, 2]]));
+    let mut sender = AnyPacketizer::new(Codec::H264, false);
     for (packets, first, room, ends_room, want) in [
         (&two_one, 0, 4, 3, (2, [1, 2, 3, 9], [2, 3, 9])),
         (&two_two, 0, 3, 2, (1, [1, 2, 9, 9], [2, 9, 9])),
@@ -144,7 +145,10 @@ fn as_many_packets_as_there_is_room_for() {
         (&one, 2, 4, 3, (0, [9, 9, 9, 9], [9, 9, 9])),
     ] {
         let mut buffer = PacketBuffer::new(0);
-        buffer.push_all(packets).expect("memory");
+        for packet in packets {
+            let appended = sender.packetize_unit_into(1200, packet, &mut buffer);
+            appended.expect("memory");
+        }
         let (mut to, mut ends) = ([9; 4], [9; 3]);
         let count = copy_packets(&buffer, first, &mut to[..room], &mut ends[..ends_room]);
         assert_eq!(

@@ -24,9 +24,9 @@ impl PacketReader for H264 {
             return Err(PacketError::ErrShortPacket);
         }
         match packet[0] & NALU_TYPE_BITMASK {
+            1..=23 => Ok(Parts::Whole),
             STAPA_NALU_TYPE => read_stap(packet),
             FUA_NALU_TYPE => read_fragment(packet),
-            1..=23 => Ok(Parts::Whole),
             nalu_type => Err(PacketError::NaluTypeIsNotHandled(nalu_type)),
         }
     }

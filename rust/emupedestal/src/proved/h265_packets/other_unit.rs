@@ -25,12 +25,6 @@ impl core::fmt::Debug for H265AggregationUnit {
 }
 
 impl H265AggregationUnit {
-    /// The unit of these parts (RFC 7798, 4.4.2).
-    #[allow(dead_code, reason = "tests have it")]
-    pub(crate) fn of(dond: Option<u8>, nal_unit: Vec<u8>) -> Self {
-        H265AggregationUnit { dond, nal_unit }
-    }
-
     /// A unit of no byte, without DOND. It takes no memory.
     pub(crate) fn empty() -> Self {
         H265AggregationUnit {

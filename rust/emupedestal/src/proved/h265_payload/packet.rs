@@ -56,6 +56,7 @@ impl PacketReader for H265 {
 /// |F|   type    |   layer   | TID |             DONL              | the unit's rest
 /// +-+-+-+-+-+-+-+-+-+-+-+-+-+-+-+-+-+-+-+-+-+-+-+-+-+-+-+-+-+-+-+-+- - - - - - - -
 /// ```
+#[inline(always)]
 fn read_single(has_donl: bool, packet: &[u8]) -> Result<Parts<'_>, PacketError> {
     if !has_donl {
         return Ok(Parts::Whole);

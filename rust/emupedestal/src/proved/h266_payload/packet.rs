@@ -2,6 +2,7 @@
 
 //! What an H.266 packet is (RFC 9328, 4.3).
 
+use crate::proved::h26x_core::h266_types::{AGGREGATION_PACKET, FRAGMENTATION_UNIT};
 use crate::proved::h26x_core::{H266FragmentationUnitHeader, PacketError};
 use crate::proved::h26x_depacketizer::{
     Fragment, PacketReader, Parts, ends_access_unit, may_begin_access_unit,
@@ -36,7 +37,7 @@ fn is_fragment(packet: &[u8]) -> bool {
 }
 
 impl PacketReader for H266 {
-    // A type that is neither an aggregate's nor a fragment's is a unit's own.
+    // A type that is neither an aggregate's nor a fragment's is a unit's own, as most are.
     #[inline(always)]
     fn read(self, packet: &[u8]) -> Result<Parts<'_>, PacketError> {
         if packet.len() <= PACKET_HEADER_SIZE {
@@ -46,12 +47,14 @@ impl PacketReader for H266 {
         if header.f() {
             return Err(PacketError::ErrH266CorruptedPacket);
         }
-        if header.is_aggregation_packet() {
+        let nalu_type = header.nalu_type();
+        if nalu_type < AGGREGATION_PACKET || nalu_type > FRAGMENTATION_UNIT {
+            return read_single(self.has_donl, packet);
+        }
+        if nalu_type == AGGREGATION_PACKET {
             read_aggregate(self.has_donl, packet)
-        } else if header.is_fragmentation_unit() {
-            read_fragment(self.has_donl, packet)
         } else {
-            read_single(self.has_donl, packet)
+            read_fragment(self.has_donl, packet)
         }
     }
 

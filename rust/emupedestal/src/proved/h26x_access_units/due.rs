@@ -94,7 +94,7 @@ fn believed<'a>(at: Framing, packet: &RtpPacket<'a>) -> RtpPacket<'a> {
 /// Notes of a packet that is due and isn't refused what became of it: `at` is what is known with it of
 /// where access units end.
 #[inline(always)]
-fn note_received(
+pub(crate) fn note_received(
     framing: &mut Framing,
     numbers: &mut NumbersSoFar,
     counts: &mut Counts,
@@ -115,6 +115,24 @@ fn note_received(
     numbers.note(packet, received);
     counts.note(packet, received, text);
     counts.frame(still, unbelieved);
+}
+
+/// So of one that was taken in order, whose marker is believed, and that doesn't stand still.
+#[inline(always)]
+pub(crate) fn note_in_order(
+    framing: &mut Framing,
+    numbers: &mut NumbersSoFar,
+    counts: &mut Counts,
+    at: Framing,
+    packet: &RtpPacket<'_>,
+    text: bool,
+) {
+    *framing = at.marked(packet.marker);
+    let still = at.stands_still;
+    numbers.stand(still);
+    numbers.take(packet, 0);
+    counts.note(packet, Received::InOrder, text);
+    counts.frame(false, false);
 }
 
 /// What is known with a packet of where access units end: nothing more than before where it goes on
@@ -318,6 +336,8 @@ fn take_seen<D: RunDepacketizer>(
 
 /// Takes a packet that is due as [`take_seen`] does. Where no number is expected its own is, if it
 /// has a payload, so that it is known of its access unit from it on whether something is missing.
+#[cold]
+#[inline(never)]
 pub(crate) fn take_begun<D: RunDepacketizer>(
     assembler: &mut AccessUnitAssembler<D>,
     ended: &mut Vec<AccessUnit>,

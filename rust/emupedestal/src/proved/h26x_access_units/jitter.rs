@@ -287,6 +287,7 @@ impl JitterBuffer {
     }
 
     /// Takes back a packet that doesn't wait, for its memory, as [`ReorderBuffer::give_back`] does.
+    #[inline(always)]
     pub fn give_back(&mut self, packet: HeldPacket) {
         self.buffer.give_back(packet);
     }
@@ -331,6 +332,7 @@ impl JitterBuffer {
     }
 
     /// The first packet, due or not.
+    #[inline(always)]
     pub fn pop_first(&mut self) -> Option<HeldPacket> {
         let due = self.buffer.due().unwrap_or(0);
         match self.buffer.pop_first() {

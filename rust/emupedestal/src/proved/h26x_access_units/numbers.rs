@@ -101,6 +101,20 @@ impl NumbersSoFar {
         }
     }
 
+    /// The numbers of an access unit that a packet begins, before which so many are missing.
+    #[inline(always)]
+    fn begun(&self, packet: &RtpPacket<'_>, missing: u32) -> AccessUnitNumbers {
+        AccessUnitNumbers {
+            timestamp: packet.timestamp,
+            first: packet.sequence,
+            last: packet.sequence,
+            missing: missing.saturating_add(self.carried),
+            continues: is_timestamp(self.marked, packet.timestamp),
+            follows: self.has_begun && missing == 0,
+            is_counted: self.has_taken,
+        }
+    }
+
     /// A packet came, before which so many are missing: its access unit is open, and another one ended.
     #[inline]
     fn go_on(&mut self, packet: &RtpPacket<'_>, missing: u32) {
@@ -112,18 +126,33 @@ impl NumbersSoFar {
             }
             _ => {
                 self.ended = self.unit;
-                self.unit = Some(AccessUnitNumbers {
-                    timestamp: packet.timestamp,
-                    first: packet.sequence,
-                    last: packet.sequence,
-                    missing: missing.saturating_add(self.carried),
-                    continues: self.marked == Some(packet.timestamp),
-                    follows: self.has_begun && missing == 0,
-                    is_counted: self.has_taken,
-                });
+                self.unit = Some(self.begun(packet, missing));
                 self.carried = 0;
             }
         }
+    }
+
+    /// A packet with a marker came, before which so many are missing: its access unit ended, whose
+    /// numbers are written where they stay.
+    #[inline(always)]
+    fn end_with(&mut self, packet: &RtpPacket<'_>, missing: u32) {
+        match self.unit {
+            Some(unit) if unit.timestamp == packet.timestamp => {
+                self.ended = None;
+                self.ended_by_marker = Some(AccessUnitNumbers {
+                    last: packet.sequence,
+                    missing: unit.missing.saturating_add(missing),
+                    ..unit
+                });
+            }
+            unit => {
+                self.ended = unit;
+                self.ended_by_marker = Some(self.begun(packet, missing));
+                self.carried = 0;
+            }
+        }
+        self.marked = Some(packet.timestamp);
+        self.unit = None;
     }
 
     /// A number was skipped or refused, and so many are missing up to it.
@@ -136,17 +165,15 @@ impl NumbersSoFar {
     pub(crate) fn take(&mut self, packet: &RtpPacket<'_>, missing: u16) {
         let missing = self.skipped_gap.saturating_add(u32::from(missing));
         self.skipped_gap = 0;
-        self.go_on(packet, missing);
-        self.has_begun = true;
-        self.has_taken = true;
         if packet.marker {
-            self.marked = Some(packet.timestamp);
-            self.ended_by_marker = self.unit;
-            self.unit = None;
+            self.end_with(packet, missing);
         } else {
+            self.go_on(packet, missing);
             self.marked = None;
             self.ended_by_marker = None;
         }
+        self.has_begun = true;
+        self.has_taken = true;
     }
 
     /// Notes what became of a packet that was due, and not refused.

@@ -14,6 +14,7 @@ use crate::proved::h26x_access_units::jitter::JitterBuffer;
 use crate::proved::h26x_access_units::numbers::NumbersSoFar;
 use crate::proved::h26x_access_units::passed::PassedNumbers;
 use crate::proved::h26x_access_units::pushed::{NotPushed, NotPushedReason, Pushed};
+use crate::proved::h26x_access_units::short;
 use crate::proved::h26x_access_units::unit::{self, ReceivedAccessUnit, remove_first};
 use crate::proved::h26x_access_units::way::Way;
 use crate::proved::h26x_assembler::{AccessUnit, AccessUnitAssembler, UnitsSoFar};
@@ -23,6 +24,13 @@ use crate::proved::h26x_receiver::SequencedDepacketizer;
 use crate::proved::h26x_reorder::{HeldPacket, RtpPacket};
 use crate::support::TryVec;
 use alloc::vec::Vec;
+
+/// The first packet that waits, of this number, was taken: it waits no more.
+#[inline(always)]
+fn pass_first(waiting: &mut JitterBuffer, passed: &mut PassedNumbers, number: u16) {
+    passed.take(waiting.awaited().unwrap_or(0), number);
+    waiting.drop_first();
+}
 
 /// Takes RTP packets as they come and gives out access units.
 #[derive(Debug)]
@@ -90,6 +98,7 @@ impl<D: RunDepacketizer> AccessUnitReceiver<D> {
     /// taken at once, where none waits or is missing right before it, and no access unit has ended that
     /// `next` hasn't given out. One without a payload came and bears nothing. Without memory all stays
     /// as it was, and it can be given again; one that isn't kept wants none.
+    #[inline(always)]
     pub fn try_push(&mut self, now: u32, packet: &RtpPacket<'_>) -> Result<Pushed, PacketError> {
         if self.takes_at_once(packet) {
             self.take_at_once(packet)?;
@@ -112,6 +121,7 @@ impl<D: RunDepacketizer> AccessUnitReceiver<D> {
     }
 
     /// What a number is to what the stream passed and to what waits.
+    #[inline(always)]
     fn way_of(&self, number: u16) -> Way {
         let due = self.waiting.due();
         if self.passed.has_passed(due, number) {
@@ -145,9 +155,10 @@ impl<D: RunDepacketizer> AccessUnitReceiver<D> {
     }
 
     /// Takes a packet at once, which waits no more than one that is due.
+    #[inline(always)]
     fn take_at_once(&mut self, packet: &RtpPacket<'_>) -> Result<(), PacketError> {
         let sequence = packet.sequence;
-        let received = take_begun(
+        let received = short::take_due(
             &mut self.assembler,
             &mut self.ended,
             &mut self.framing,
@@ -314,9 +325,7 @@ impl<D: RunDepacketizer> AccessUnitReceiver<D> {
         if is_want_of_memory(&received) {
             return Err(PacketError::OutOfMemory);
         }
-        self.passed
-            .take(self.waiting.awaited().unwrap_or(0), number);
-        self.waiting.drop_first();
+        pass_first(&mut self.waiting, &mut self.passed, number);
         Ok(true)
     }
 
@@ -334,6 +343,33 @@ impl<D: RunDepacketizer> AccessUnitReceiver<D> {
     /// Takes the packet that is due, if one is; where the access unit that is open ends before it
     /// that ends first, and if there is one the packet is due still.
     fn step(&mut self, now: u32) -> Result<bool, PacketError> {
+        let packet = match self.waiting.first_due(now) {
+            Some(held) => held.packet(),
+            None => return Ok(false),
+        };
+        if ends_before(&self.assembler, self.framing, &packet) {
+            return self.step_at_end(now);
+        }
+        let number = packet.sequence;
+        let received = short::take_due(
+            &mut self.assembler,
+            &mut self.ended,
+            &mut self.framing,
+            &mut self.numbers,
+            &mut self.counts,
+            &packet,
+        );
+        if is_want_of_memory(&received) {
+            return Err(PacketError::OutOfMemory);
+        }
+        pass_first(&mut self.waiting, &mut self.passed, number);
+        Ok(true)
+    }
+
+    /// So where one may end first.
+    #[cold]
+    #[inline(never)]
+    fn step_at_end(&mut self, now: u32) -> Result<bool, PacketError> {
         if !self.end_before(now)? {
             return self.take_due(now);
         }
@@ -400,6 +436,7 @@ impl<D: RunDepacketizer> AccessUnitReceiver<D> {
     }
 
     /// Gives out the first access unit that ended.
+    #[inline(never)]
     fn give(&mut self) -> Option<ReceivedAccessUnit> {
         if self.ended.is_empty() {
             return None;
@@ -418,7 +455,7 @@ impl<D: RunDepacketizer> AccessUnitReceiver<D> {
     ///
     /// Without memory the error is `OutOfMemory`: what was taken before stays taken, and the packet for
     /// which memory lacks is due still.
-    #[inline]
+    #[inline(always)]
     pub fn next(&mut self, now: u32) -> Result<Option<ReceivedAccessUnit>, PacketError> {
         if self.has_unit() {
             return Ok(self.give());
@@ -447,6 +484,7 @@ impl<D: RunDepacketizer> AccessUnitReceiver<D> {
     }
 
     /// What `next` does.
+    #[inline(never)]
     fn next_due(&mut self, now: u32) -> Result<Option<ReceivedAccessUnit>, PacketError> {
         let _ = self.drop_bare();
         self.end_if_anew()?;

@@ -293,16 +293,6 @@ fn answered_values(
     Ok(values)
 }
 
-/// A payload type and the parameters of its format.
-#[allow(dead_code, reason = "tests have it")]
-#[derive(Debug)]
-pub struct Format<P: CodecParameter> {
-    /// The payload type.
-    pub payload_type: u8,
-    /// What an `a=fmtp` line says of it.
-    pub parameters: CodecParameters<P>,
-}
-
 /// The parameters of the answer, on terms.
 fn answered<P: CodecRules>(
     _rules: AnswerRules,
@@ -425,26 +415,6 @@ pub(crate) fn answer_format<P: CodecRules>(
     for own in ours {
         if let Some(answer) = allowed_answer(config, offered, own)? {
             return Ok(Some(answer));
-        }
-    }
-    Ok(None)
-}
-
-/// The answer to an offer: of its formats, in its order of preference, the first that one of ours
-/// answers, with its payload type; `None` where no two have a configuration in common (RFC 3264,
-/// section 6.1). To take more than one format, ask each for its answer.
-#[allow(dead_code, reason = "tests have it")]
-pub(crate) fn answer_to<P: CodecRules>(
-    config: AnswerConfig,
-    offer: &[Format<P>],
-    ours: &[CodecParameters<P>],
-) -> Result<Option<Format<P>>, AllocError> {
-    for format in offer {
-        if let Some(parameters) = answer_format(config, &format.parameters, ours)? {
-            return Ok(Some(Format {
-                payload_type: format.payload_type,
-                parameters,
-            }));
         }
     }
     Ok(None)

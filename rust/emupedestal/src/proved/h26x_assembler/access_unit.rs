@@ -175,7 +175,6 @@ impl OpenAccessUnit {
     }
 
     /// Whether one is open.
-    #[allow(dead_code, reason = "tests have it")]
     pub fn is_open(&self) -> bool {
         self.unit.is_some()
     }

@@ -125,7 +125,42 @@ impl<D: RunDepacketizer> AccessUnitAssembler<D> {
         let (packets, unit, spare) = (&mut self.packets, &mut self.unit, &mut self.spare);
         let received = take(packets, unit, spare, packet, out);
         if was_taken(&received) {
-            self.is_text_given_up = self.unit.limit(self.unit_limit);
+            self.limit_text();
+        }
+        received
+    }
+
+    /// Gives up the text of the access unit that is open where it is longer than the limit, and tells
+    /// whether it was.
+    #[inline(always)]
+    fn limit_text(&mut self) {
+        self.is_text_given_up = self.unit.limit(self.unit_limit);
+    }
+
+    /// Takes a packet without a marker into the access unit that is open, whose timestamp it has, as
+    /// [`receive`](Self::receive) does: it ends none.
+    #[inline(always)]
+    pub(crate) fn go_on(&mut self, packet: &RtpPacket<'_>) -> Result<Received, PacketError> {
+        let received = self.unit.go_on(&mut self.packets, packet);
+        if was_taken(&received) {
+            self.limit_text();
+        }
+        received
+    }
+
+    /// Takes a packet that begins an access unit, since none of its timestamp is open, as
+    /// [`receive`](Self::receive) does.
+    #[inline(always)]
+    pub(crate) fn begin(
+        &mut self,
+        packet: &RtpPacket<'_>,
+        out: &mut Vec<AccessUnit>,
+    ) -> Result<Received, PacketError> {
+        out.try_reserve(2)?;
+        let (packets, unit, spare) = (&mut self.packets, &mut self.unit, &mut self.spare);
+        let received = begin(packets, unit, spare, packet, out);
+        if was_taken(&received) {
+            self.limit_text();
         }
         received
     }

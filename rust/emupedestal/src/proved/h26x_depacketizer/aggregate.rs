@@ -42,9 +42,9 @@ pub(crate) fn write_units<A: Aggregate, W: UnitSink>(
     let mut key = false;
     let mut rest = bytes;
     while let Some((unit, behind)) = codec.first_unit(rest) {
+        put_unit(is_avc, unit, out);
         counts |= unit.len() >= codec.header_len();
         key |= codec.is_key(unit);
-        put_unit(is_avc, unit, out);
         rest = behind;
     }
     if counts {

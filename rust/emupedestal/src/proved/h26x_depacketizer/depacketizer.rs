@@ -112,6 +112,26 @@ impl<C: PacketReader, S: Shows<C>> PayloadDepacketizer<C, S> {
         Ok(())
     }
 
+    /// Takes a packet as `depacketize_into` does, and writes units in this form, whatever is set:
+    /// behind lengths or behind start codes. Code that names the form has no branch on it.
+    #[inline(always)]
+    pub fn depacketize_as<W: UnitSink>(
+        &mut self,
+        is_avc: bool,
+        packet: &[u8],
+        out: &mut W,
+        codec_extra: &mut CodecExtra,
+    ) -> Result<(), PacketError> {
+        let codec = self.codec;
+        let parts = S::read(codec, packet)?;
+        let open_len = self.run.open_len();
+        S::prepare(codec, is_avc, packet, parts, open_len, &mut self.spare)?;
+        let run = &mut self.run;
+        take_packet(codec, is_avc, packet, parts, run, out, codec_extra)?;
+        self.payload.show(codec, packet, parts, &mut self.spare);
+        Ok(())
+    }
+
     /// Takes a packet as `depacketize_into` does, where the run that is open stands in the text that
     /// is written to, and not here: the data of its fragments are copied once. By the rule the packet
     /// goes on with that run, or has it given up. A refusal leaves everything.

@@ -7,7 +7,7 @@ use crate::proved::h26x_payload::PayloadFormat;
 
 /// The extra after units, with a key unit among them or not.
 pub fn told<C: PayloadFormat>(codec: C, extra: CodecExtra, key: bool) -> CodecExtra {
-    codec.extra(key || codec.has_key(extra))
+    codec.extra(codec.has_key(extra) || key)
 }
 
 /// How many bytes the units of packets of this many bytes may take: four more, and four for each

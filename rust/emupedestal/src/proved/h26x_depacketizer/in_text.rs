@@ -40,7 +40,7 @@ fn take_fragment_inside<C: PacketReader>(
 
 /// Takes the parts of a packet while the run stands aside, where it is put first. A unit that is too
 /// long is refused before that takes memory.
-#[inline]
+#[inline(always)]
 fn take_parts_aside<C: PacketReader>(
     codec: C,
     is_avc: bool,
@@ -60,7 +60,7 @@ fn take_parts_aside<C: PacketReader>(
 
 /// Takes a fragment: a start begins a run inside, where it may stay there; one that is neither a start
 /// nor the next one gives up the run.
-#[inline]
+#[inline(always)]
 fn take_fragment_in_text<C: PacketReader>(
     codec: C,
     is_avc: bool,
@@ -90,7 +90,7 @@ fn take_fragment_in_text<C: PacketReader>(
 }
 
 /// Takes a packet that is no fragment: a run that is open is put aside, or given up.
-#[inline]
+#[inline(always)]
 fn take_whole_in_text<C: PacketReader>(
     codec: C,
     is_avc: bool,

@@ -2,12 +2,10 @@
 
 //! Packets behind each other in one buffer.
 
-mod loan;
 pub mod memory;
 
 use self::memory::{BufferMemory, is_at_most, make_room};
 use crate::proved::h26x_packetizer::body::{Body, put_packet};
-use crate::proved::h26x_packetizer::buffer_packets::BufferPackets;
 use crate::proved::h26x_packetizer::sink::PacketSink;
 use crate::support::AllocError;
 use alloc::vec::Vec;
@@ -59,12 +57,6 @@ impl PacketBuffer {
         }
     }
 
-    /// Whether it holds none.
-    #[allow(dead_code, reason = "tests have it")]
-    pub fn is_empty(&self) -> bool {
-        self.ends.is_empty()
-    }
-
     /// How many packets it holds.
     pub fn len(&self) -> usize {
         self.ends.len()
@@ -100,19 +92,6 @@ impl PacketBuffer {
         &self.bytes[start..end]
     }
 
-    /// The packet at a place behind its headroom.
-    #[allow(dead_code, reason = "tests have it")]
-    pub(crate) fn with_headroom(&self, place: usize) -> &[u8] {
-        let (start, end) = bounds_of(self.headroom, &self.bytes, &self.ends, place);
-        &self.bytes[start - self.headroom..end]
-    }
-
-    /// The packets, in order.
-    #[allow(dead_code, reason = "tests have it")]
-    pub fn iter(&self) -> BufferPackets<'_> {
-        BufferPackets::new(&self.bytes, &self.ends, self.headroom)
-    }
-
     /// All bytes as they lie: the packets behind each other, each behind its headroom.
     #[allow(dead_code, reason = "the C library has it")]
     pub fn bytes(&self) -> &[u8] {
@@ -126,14 +105,6 @@ impl PacketBuffer {
         &self.ends
     }
 
-    /// Writes a header right before the packet at a place, over the last bytes of its headroom; all
-    /// else stays, and the headrooms of the other packets.
-    #[allow(dead_code, reason = "tests have it")]
-    pub(crate) fn write_header(&mut self, place: usize, header: &[u8]) {
-        let (start, _) = bounds_of(self.headroom, &self.bytes, &self.ends, place);
-        self.bytes[start - header.len()..start].copy_from_slice(header);
-    }
-
     /// Keeps the first so many packets with their headrooms, in the same memory.
     pub fn truncate(&mut self, count: usize) {
         if count < self.ends.len() {
@@ -143,7 +114,7 @@ impl PacketBuffer {
     }
 
     /// Drops every packet, and keeps the memory.
-    #[allow(dead_code, reason = "tests have it")]
+    #[allow(dead_code, reason = "the C library has it")]
     pub fn clear(&mut self) {
         self.bytes.clear();
         self.ends.clear();
@@ -161,39 +132,6 @@ impl PacketBuffer {
         put_packet(self.headroom, header, donl, body, &mut self.bytes);
         self.ends.push(self.bytes.len());
         Ok(())
-    }
-
-    /// Appends a packet behind its headroom, which is of zeros. Only want of memory refuses it, and
-    /// leaves the packets. Memory grows to twice what it was, and only where there is none left.
-    #[allow(dead_code, reason = "tests have it")]
-    pub(crate) fn try_push(&mut self, packet: &[u8]) -> Result<(), AllocError> {
-        let mut made = Appending::from_buffer(self);
-        match made.push_packet(packet) {
-            Ok(()) => made.finish(self),
-            Err(e) => {
-                made.give_up(self);
-                Err(e)
-            }
-        }
-    }
-
-    /// Appends packets, each behind its headroom of zeros: all of them, or none where memory lacks.
-    #[allow(dead_code, reason = "tests have it")]
-    pub(crate) fn push_all(&mut self, packets: &[Vec<u8>]) -> Result<(), AllocError> {
-        let mut made = Appending::from_buffer(self);
-        match made.push_packets(packets) {
-            Ok(()) => made.finish(self),
-            Err(e) => {
-                made.give_up(self);
-                Err(e)
-            }
-        }
-    }
-
-    /// Reserves room for so many packets more, but none for their bytes.
-    #[allow(dead_code, reason = "tests have it")]
-    pub(crate) fn try_reserve(&mut self, count: usize) -> Result<(), AllocError> {
-        make_room(&mut self.ends, count, FIRST_ENDS)
     }
 }
 
@@ -218,19 +156,6 @@ impl Appending {
         }
     }
 
-    /// Appends a packet.
-    fn push_packet(&mut self, packet: &[u8]) -> Result<(), AllocError> {
-        self.buffer.push_parts(&[], &[], Body::Data(packet))
-    }
-
-    /// Appends packets.
-    fn push_packets(&mut self, packets: &[Vec<u8>]) -> Result<(), AllocError> {
-        for packet in packets {
-            self.push_packet(packet)?;
-        }
-        Ok(())
-    }
-
     /// Puts the buffer in its place, with what was appended; as it was where it has more memory than it
     /// may, which is want of memory.
     pub(crate) fn finish(self, into: &mut PacketBuffer) -> Result<(), AllocError> {
@@ -252,14 +177,12 @@ impl Appending {
 }
 
 impl<'a> PacketSink<'a> for Appending {
-    #[allow(dead_code, reason = "tests have it")]
     #[inline(always)]
     fn try_push(&mut self, header: &[u8], donl: &[u8], body: Body<'a>) -> Result<(), AllocError> {
         self.buffer.push_parts(header, donl, body)
     }
 
     /// None: the buffer grows with its packets, and so has no memory for those that don't come.
-    #[allow(dead_code, reason = "tests have it")]
     #[inline(always)]
     fn try_reserve(&mut self, _count: usize) -> Result<(), AllocError> {
         Ok(())

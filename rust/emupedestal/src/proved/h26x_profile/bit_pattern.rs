@@ -10,12 +10,6 @@ pub struct BitPattern {
 }
 
 impl BitPattern {
-    /// The pattern of these places, each `b'0'`, `b'1'` or `b'x'`.
-    #[allow(dead_code, reason = "tests have it")]
-    pub(crate) const fn new(pattern: [u8; 8]) -> Self {
-        BitPattern { places: pattern }
-    }
-
     /// Whether each place takes its bit of the value.
     pub fn matches(&self, value: u8) -> bool {
         let places = self.places;

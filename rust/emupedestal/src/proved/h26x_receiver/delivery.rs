@@ -16,13 +16,13 @@ use alloc::vec::Vec;
 /// was taken.
 pub fn receive_all<D: RunDepacketizer>(
     receiver: &mut SequencedDepacketizer<D>,
-    packets: &[(u16, Vec<u8>)],
+    packets: &[(u16, impl AsRef<[u8]>)],
     out: &mut Vec<u8>,
     codec_extra: &mut CodecExtra,
 ) -> Result<Vec<Result<Received, PacketError>>, PacketError> {
     let mut answers = Vec::try_with_room(packets.len())?;
     for (sequence, packet) in packets {
-        let answer = receiver.receive(*sequence, packet, out, codec_extra);
+        let answer = receiver.receive(*sequence, packet.as_ref(), out, codec_extra);
         answers.push(answer);
     }
     Ok(answers)

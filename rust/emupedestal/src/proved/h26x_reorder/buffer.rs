@@ -7,7 +7,6 @@ use crate::proved::h26x_reorder::packet::RtpPacket;
 use crate::proved::h26x_reorder::pushed::Pushed;
 use crate::proved::h26x_reorder::spare::SparePayloads;
 use crate::support::AllocError;
-use crate::support::TryVec;
 use alloc::vec::Vec;
 
 /// A packet with memory of its own: one that a buffer holds, or gave out.
@@ -50,16 +49,6 @@ impl HeldPacket {
     /// The memory of its payload, for another packet.
     pub fn into_payload(self) -> Vec<u8> {
         self.payload
-    }
-
-    /// A copy of a packet, with this sequence number.
-    pub(crate) fn copy(sequence: u16, packet: &RtpPacket<'_>) -> Result<Self, AllocError> {
-        Ok(HeldPacket {
-            sequence,
-            timestamp: packet.timestamp,
-            marker: packet.marker,
-            payload: Vec::try_from_slice(packet.payload)?,
-        })
     }
 
     /// The packet, for a receiver.

@@ -2,7 +2,6 @@
 
 //! A list of packets, put in the order of their sequence numbers.
 
-use crate::proved::h26x_reorder::buffer::HeldPacket;
 use crate::proved::h26x_reorder::order::NumberOrder;
 use crate::proved::h26x_reorder::packet::RtpPacket;
 use crate::support::AllocError;
@@ -36,7 +35,7 @@ fn pop_all<'a, 'b>(order: &mut NumberOrder<&'a RtpPacket<'b>>, out: &mut Vec<&'a
     }
 }
 
-/// Puts packets in the order of their sequence numbers, as [`reorder_all`] does, and copies none.
+/// Puts packets in the order of their sequence numbers, as `reorder_all` does, and copies none.
 pub(crate) fn ordered<'a, 'b>(
     window: u16,
     packets: &'a [RtpPacket<'b>],
@@ -48,19 +47,5 @@ pub(crate) fn ordered<'a, 'b>(
         pop_ready(&mut order, &mut out);
     }
     pop_all(&mut order, &mut out);
-    Ok(out)
-}
-
-/// Puts packets in the order of their sequence numbers through a buffer with this window, 1 to 2^14:
-/// those that come late or twice are left out.
-pub(crate) fn reorder_all(
-    window: u16,
-    packets: &[RtpPacket<'_>],
-) -> Result<Vec<HeldPacket>, AllocError> {
-    let ordered = ordered(window, packets)?;
-    let mut out = Vec::try_with_room(ordered.len())?;
-    for packet in &ordered {
-        out.push(HeldPacket::copy(packet.sequence, packet)?);
-    }
     Ok(out)
 }

@@ -27,7 +27,7 @@ impl SparePayloads {
     }
 
     /// A copy of a payload, in memory that is kept, where there is some.
-    #[inline]
+    #[inline(always)]
     pub(crate) fn copy(&mut self, payload: &[u8]) -> Result<Vec<u8>, AllocError> {
         match self.memories.pop() {
             Some(mut memory) => {

@@ -113,6 +113,17 @@ fn header_of<'a>(
     }
 }
 
+/// A packet whose header has 12 bytes and which has no padding, as most are: all behind that is payload
+/// (RFC 3550, 5.1).
+#[inline(always)]
+fn read_alone<'a>(bytes: &[u8], rest: &'a [u8]) -> RtpDatagram<'a> {
+    RtpDatagram {
+        header: header_of(bytes, &[], None),
+        payload: rest,
+        padding: &[],
+    }
+}
+
 /// A packet of version 2: by the first 12 bytes what stands behind them (RFC 3550, 5.1).
 #[inline(always)]
 fn read_behind<'a>(bytes: &[u8], rest: &'a [u8]) -> Result<RtpDatagram<'a>, RtpError> {
@@ -134,11 +145,14 @@ fn read_datagram(bytes: &[u8]) -> Result<RtpDatagram<'_>, RtpError> {
     if bytes.len() < FIXED_SIZE {
         return Err(RtpError::TooShort);
     }
+    let (_, rest) = bytes.split_at(FIXED_SIZE);
+    if bytes[0] == 0x80 {
+        return Ok(read_alone(bytes, rest));
+    }
     let version = bytes[0] >> 6;
     if version != 2 {
         return Err(RtpError::OtherVersion(version));
     }
-    let (_, rest) = bytes.split_at(FIXED_SIZE);
     read_behind(bytes, rest)
 }
 

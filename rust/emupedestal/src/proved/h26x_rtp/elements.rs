@@ -90,16 +90,6 @@ fn form_of(profile: u16) -> Option<ElementForm> {
     }
 }
 
-/// Bytes without the padding before them (RFC 8285, 4.1.2).
-fn without_padding(_form: ElementForm, bytes: &[u8]) -> &[u8] {
-    for (place, byte) in bytes.iter().enumerate() {
-        if *byte != 0 {
-            return &bytes[place..];
-        }
-    }
-    &[]
-}
-
 /// How many bytes an element has in the form of one byte (RFC 8285, 4.2).
 fn short_size(byte: u8) -> usize {
     usize::from(byte & 0x0f) + 1
@@ -109,36 +99,6 @@ fn short_size(byte: u8) -> usize {
 /// is no padding (RFC 8285, 4.2).
 fn ends_short(byte: u8) -> bool {
     byte >> 4 == 0 || byte >> 4 == 15
-}
-
-/// The first element in the form of one byte, and what stands behind it.
-fn first_short(bytes: &[u8]) -> Option<(RtpElement<'_>, &[u8])> {
-    if bytes.is_empty() {
-        return None;
-    }
-    let (_, rest) = bytes.split_at(1);
-    let id = bytes[0] >> 4;
-    let size = short_size(bytes[0]);
-    if ends_short(bytes[0]) || rest.len() < size {
-        return None;
-    }
-    let (bytes, rest) = rest.split_at(size);
-    Some((RtpElement { id, bytes }, rest))
-}
-
-/// The first element in the form of two bytes, and what stands behind it.
-fn first_long(bytes: &[u8]) -> Option<(RtpElement<'_>, &[u8])> {
-    if bytes.len() < 2 {
-        return None;
-    }
-    let (_, rest) = bytes.split_at(2);
-    let id = bytes[0];
-    let size = usize::from(bytes[1]);
-    if rest.len() < size {
-        return None;
-    }
-    let (bytes, rest) = rest.split_at(size);
-    Some((RtpElement { id, bytes }, rest))
 }
 
 /// An element of so many bytes at a place.
@@ -192,6 +152,18 @@ fn first_placed(
     Ok(None)
 }
 
+/// The first element, and what stands behind it.
+fn first_of(form: ElementForm, bytes: &[u8]) -> Option<(RtpElement<'_>, &[u8])> {
+    match first_placed(form, bytes, 0) {
+        Ok(Some(it)) => {
+            let (_, rest) = bytes.split_at(it.place + it.element.bytes.len());
+            Some((it.element, rest))
+        }
+        Ok(None) => None,
+        Err(_) => None,
+    }
+}
+
 impl<'a> RtpExtension<'a> {
     /// The first element from a place of its bytes on, behind padding: none behind the last one, nor
     /// where its profile says no form of elements (RFC 8285, 4.2 and 4.3). An element that passes the
@@ -225,11 +197,7 @@ impl<'a> Iterator for RtpElements<'a> {
     type Item = RtpElement<'a>;
 
     fn next(&mut self) -> Option<RtpElement<'a>> {
-        let bytes = without_padding(self.form, self.rest);
-        let (element, rest) = match self.form {
-            ElementForm::OneByte => first_short(bytes)?,
-            ElementForm::TwoBytes => first_long(bytes)?,
-        };
+        let (element, rest) = first_of(self.form, self.rest)?;
         self.rest = rest;
         Some(element)
     }

@@ -43,7 +43,18 @@ impl RtpPayloadTypes {
         if self.resent_type(self.media).is_some() || self.is_red(self.media) {
             return None;
         }
+        if self.media >= 64 && self.media <= 95 {
+            return None;
+        }
         Some(self.media)
+    }
+
+    /// That as a number which is that of no payload type where there is none.
+    fn plain_number(self) -> u16 {
+        match self.plain_type() {
+            Some(payload_type) => u16::from(payload_type),
+            None => 256,
+        }
     }
 
     /// Whether it is RED.
@@ -67,8 +78,8 @@ impl RtpPayloadTypes {
 pub(crate) struct StreamTypes {
     /// All of them.
     all: RtpPayloadTypes,
-    /// That whose packets bear the codec's payload by themselves.
-    plain: Option<u8>,
+    /// The number of that whose packets bear the codec's payload by themselves; 256 where none do.
+    plain: u16,
 }
 
 impl StreamTypes {
@@ -76,7 +87,7 @@ impl StreamTypes {
     pub(crate) fn new(all: RtpPayloadTypes) -> Self {
         StreamTypes {
             all,
-            plain: all.plain_type(),
+            plain: all.plain_number(),
         }
     }
 
@@ -88,6 +99,13 @@ impl StreamTypes {
     /// Whether packets of this one bear the codec's payload by themselves.
     #[inline(always)]
     pub(crate) fn is_plain(&self, payload_type: u8) -> bool {
-        is_type(self.plain, payload_type)
+        self.plain == u16::from(payload_type)
+    }
+
+    /// Whether bytes may be a packet of that one: they are no RTCP then, which would have one of 64 to
+    /// 95 there (RFC 5761, 4).
+    #[inline(always)]
+    pub(crate) fn may_be_plain(&self, bytes: &[u8]) -> bool {
+        bytes.len() > 12 && self.is_plain(bytes[1] & 0x7f)
     }
 }

@@ -104,7 +104,7 @@ impl<D: RunDepacketizer> RtpReceiver<D> {
         arrival: u32,
         datagram: &[u8],
     ) -> Result<RtpPushed, RtpPushError> {
-        if !is_rtcp(datagram) {
+        if self.types.may_be_plain(datagram) {
             if let Ok(packet) = RtpDatagram::read(datagram) {
                 if self.is_plain(packet) {
                     return self.push_plain(now, arrival, packet);
@@ -248,6 +248,7 @@ impl<D: RunDepacketizer> RtpReceiver<D> {
 
     /// The next access unit, if one has ended at this tick, as of an `AccessUnitReceiver`. Call it
     /// until it gives out none, after each `push`, and at `deadline`.
+    #[inline]
     pub fn next(&mut self, now: u32) -> Result<Option<ReceivedAccessUnit>, PacketError> {
         let unit = self.receiver.next(now);
         if let Ok(Some(unit)) = &unit {

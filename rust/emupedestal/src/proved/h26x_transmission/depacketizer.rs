@@ -2,17 +2,18 @@
 
 //! A depacketizer of any codec, or a caller's own.
 
-use crate::proved::h26x_codec::Codec;
-use crate::proved::h26x_core::{CodecExtra, Depacketizer, PacketError};
-use crate::proved::h264_payload::H264Depacketizer;
-use crate::proved::h265_payload::H265Depacketizer;
-use crate::proved::h266_payload::H266Depacketizer;
+use crate::Codec;
+use crate::H264Depacketizer;
+use crate::H265Depacketizer;
+use crate::H266Depacketizer;
+use crate::{CodecExtra, Depacketizer, PacketError};
 use alloc::{boxed::Box, vec::Vec};
-use core::fmt;
+use core::panic::UnwindSafe;
 
 /// A depacketizer of one of the codecs (RFC 6184, RFC 7798, RFC 9328), or a caller's own in a box.
 ///
 /// Every call goes to the depacketizer that it holds.
+#[derive(Debug)]
 pub enum CodecDepacketizer {
     /// Receives H.264 (RFC 6184).
     H264(H264Depacketizer),
@@ -21,24 +22,13 @@ pub enum CodecDepacketizer {
     /// Receives H.266 (RFC 9328).
     H266(H266Depacketizer),
     /// A caller's own depacketizer. Nothing is known of it but the laws of [`Depacketizer`].
-    Boxed(Box<dyn Depacketizer>),
-}
-
-impl fmt::Debug for CodecDepacketizer {
-    /// The depacketizer of a codec behind its codec's name; of one in a box only `Boxed`.
-    fn fmt(&self, f: &mut fmt::Formatter<'_>) -> fmt::Result {
-        match self {
-            CodecDepacketizer::H264(it) => write!(f, "H264({it:?})"),
-            CodecDepacketizer::H265(it) => write!(f, "H265({it:?})"),
-            CodecDepacketizer::H266(it) => write!(f, "H266({it:?})"),
-            CodecDepacketizer::Boxed(_) => write!(f, "Boxed"),
-        }
-    }
+    Boxed(Box<dyn Depacketizer + Send + Sync + UnwindSafe>),
 }
 
 impl CodecDepacketizer {
     /// A depacketizer of a codec that reads packets without decoding order numbers, writes start
     /// codes and has no run open; of H.265 it shows the empty single NAL unit packet.
+    #[inline]
     pub fn new(codec: Codec) -> Self {
         match codec {
             Codec::H264 => CodecDepacketizer::H264(H264Depacketizer::new()),
@@ -54,6 +44,7 @@ impl CodecDepacketizer {
     /// A run grows by every fragment until one ends it: a caller that will not hold so much calls
     /// this. Fragments that follow without a start are accepted and complete nothing. A run that ends
     /// leaves its buffer for later ones, if that has 2^20 bytes at most.
+    #[inline]
     pub fn give_up_run(&mut self) {
         match self {
             CodecDepacketizer::H264(it) => it.give_up_run(),

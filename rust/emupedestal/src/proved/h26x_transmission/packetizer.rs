@@ -2,18 +2,19 @@
 
 //! A packetizer of any codec, or a caller's own.
 
-use crate::proved::h26x_codec::Codec;
-use crate::proved::h26x_core::{PacketError, Packetizer};
-use crate::proved::h26x_packetizer::{EveryUnitError, PacketBuffer, PacketsSize, Packing};
-use crate::proved::h264_payload::H264Packetizer;
-use crate::proved::h265_payload::H265Packetizer;
-use crate::proved::h266_payload::H266Packetizer;
+use crate::Codec;
+use crate::H264Packetizer;
+use crate::H265Packetizer;
+use crate::H266Packetizer;
+use crate::{EveryUnitError, PacketsSize, Packing};
+use crate::{PacketError, Packetizer};
 use alloc::{boxed::Box, vec::Vec};
-use core::fmt;
+use core::panic::UnwindSafe;
 
 /// A packetizer of one of the codecs, or a caller's own in a box.
 ///
 /// Every call goes to the packetizer that it holds.
+#[derive(Debug)]
 pub enum CodecPacketizer {
     /// Sends H.264 (RFC 6184).
     H264(H264Packetizer),
@@ -22,24 +23,13 @@ pub enum CodecPacketizer {
     /// Sends H.266 (RFC 9328).
     H266(H266Packetizer),
     /// A caller's own packetizer. Nothing is known of it but the laws of [`Packetizer`].
-    Boxed(Box<dyn Packetizer>),
-}
-
-impl fmt::Debug for CodecPacketizer {
-    /// The packetizer of a codec behind its codec's name; of one in a box only `Boxed`.
-    fn fmt(&self, f: &mut fmt::Formatter<'_>) -> fmt::Result {
-        match self {
-            CodecPacketizer::H264(it) => write!(f, "H264({it:?})"),
-            CodecPacketizer::H265(it) => write!(f, "H265({it:?})"),
-            CodecPacketizer::H266(it) => write!(f, "H266({it:?})"),
-            CodecPacketizer::Boxed(_) => write!(f, "Boxed"),
-        }
-    }
+    Boxed(Box<dyn Packetizer + Send + Sync + UnwindSafe>),
 }
 
 impl CodecPacketizer {
     /// A packetizer of a codec (RFC 6184, RFC 7798, RFC 9328) for which nothing waits, without
     /// decoding order numbers, and with 1200 bytes as the largest packet size.
+    #[inline]
     pub fn new(codec: Codec) -> Self {
         match codec {
             Codec::H264 => CodecPacketizer::H264(H264Packetizer::new()),
@@ -54,6 +44,7 @@ impl CodecPacketizer {
     /// Where it is over 0, units of H.265 and H.266 bear decoding order numbers from then on, which
     /// begin at 0, and sets that wait stay. None and 0 change nothing, and neither does any value
     /// for H.264 or a packetizer in a box. It takes no memory.
+    #[inline]
     pub fn configure_for(&mut self, sprop_max_don_diff: Option<u32>) {
         if sprop_max_don_diff.unwrap_or(0) == 0 {
             return;
@@ -65,46 +56,6 @@ impl CodecPacketizer {
         }
     }
 
-    /// Sets the largest packet size of H.265 and H.266, in bytes, 4 or more: no packet of a later
-    /// call is longer. For H.264 and a packetizer in a box it changes nothing. It takes no memory.
-    ///
-    /// # Panics
-    ///
-    /// Unless `4 <= n`.
-    pub fn with_max_packet_size(&mut self, n: u16) {
-        assert!(4 <= n);
-        match self {
-            CodecPacketizer::H265(it) => it.with_max_packet_size(n),
-            CodecPacketizer::H266(it) => it.with_max_packet_size(n),
-            CodecPacketizer::H264(_) | CodecPacketizer::Boxed(_) => {}
-        }
-    }
-
-    /// Appends the packets of a payload to a buffer, in order, each behind its headroom, which the
-    /// limit doesn't count.
-    ///
-    /// They are those of [`packetize`](Packetizer::packetize), and the packetizer is left as that
-    /// leaves it. A refusal leaves the packets that stood in the buffer; of a codec `OutOfMemory` is
-    /// the only one, and leaves the packetizer too. One in a box makes its packets first, and they are
-    /// copied in: where memory lacks for the copy, they are lost.
-    pub fn packetize_into(
-        &mut self,
-        mtu: usize,
-        b: &[u8],
-        into: &mut PacketBuffer,
-    ) -> Result<(), PacketError> {
-        match self {
-            CodecPacketizer::H264(it) => it.packetize_into(mtu, b, into),
-            CodecPacketizer::H265(it) => it.packetize_into(mtu, b, into),
-            CodecPacketizer::H266(it) => it.packetize_into(mtu, b, into),
-            CodecPacketizer::Boxed(it) => {
-                let packets = it.packetize(mtu, b)?;
-                into.push_all(&packets)?;
-                Ok(())
-            }
-        }
-    }
-
     /// The packets of one NAL unit as it is, without a start code and whatever its kind; the sets
     /// that wait stay. One in a box is given the unit as a payload.
     pub fn packetize_unit(&mut self, mtu: usize, unit: &[u8]) -> Result<Vec<Vec<u8>>, PacketError> {
@@ -113,27 +64,6 @@ impl CodecPacketizer {
             CodecPacketizer::H265(it) => it.packetize_unit(mtu, unit),
             CodecPacketizer::H266(it) => it.packetize_unit(mtu, unit),
             CodecPacketizer::Boxed(it) => it.packetize(mtu, unit),
-        }
-    }
-
-    /// Appends the packets of [`packetize_unit`](CodecPacketizer::packetize_unit) to a buffer, each
-    /// behind its headroom. Refusals leave what those of
-    /// [`packetize_into`](CodecPacketizer::packetize_into) do.
-    pub fn packetize_unit_into(
-        &mut self,
-        mtu: usize,
-        unit: &[u8],
-        into: &mut PacketBuffer,
-    ) -> Result<(), PacketError> {
-        match self {
-            CodecPacketizer::H264(it) => it.packetize_unit_into(mtu, unit, into),
-            CodecPacketizer::H265(it) => it.packetize_unit_into(mtu, unit, into),
-            CodecPacketizer::H266(it) => it.packetize_unit_into(mtu, unit, into),
-            CodecPacketizer::Boxed(it) => {
-                let packets = it.packetize(mtu, unit)?;
-                into.push_all(&packets)?;
-                Ok(())
-            }
         }
     }
 
@@ -157,25 +87,6 @@ impl CodecPacketizer {
             CodecPacketizer::H266(it) => Ok(Some(it.packetize_units(packing, mtu, units)?)),
             CodecPacketizer::Boxed(_) => Ok(None),
         }
-    }
-
-    /// Appends the packets of [`packetize_units`](CodecPacketizer::packetize_units) to a buffer, each
-    /// behind its headroom. A refusal leaves the packets that stood there, and so does `None`, of one
-    /// in a box.
-    pub fn packetize_units_into<'a>(
-        &mut self,
-        packing: Packing,
-        mtu: usize,
-        units: &'a [&'a [u8]],
-        into: &mut PacketBuffer,
-    ) -> Result<Option<()>, EveryUnitError> {
-        match self {
-            CodecPacketizer::H264(it) => it.packetize_units_into(packing, mtu, units, into)?,
-            CodecPacketizer::H265(it) => it.packetize_units_into(packing, mtu, units, into)?,
-            CodecPacketizer::H266(it) => it.packetize_units_into(packing, mtu, units, into)?,
-            CodecPacketizer::Boxed(_) => return Ok(None),
-        }
-        Ok(Some(()))
     }
 
     /// How many packets [`packetize_units_into`](CodecPacketizer::packetize_units_into) would make of
@@ -203,6 +114,7 @@ impl Packetizer for CodecPacketizer {
     ///
     /// Of a codec: each is within the limit of the call, the lesser of `mtu` and for H.265 and
     /// H.266 the largest packet size. `OutOfMemory` is the only error, and leaves everything.
+    #[inline]
     fn packetize(&mut self, mtu: usize, b: &[u8]) -> Result<Vec<Vec<u8>>, PacketError> {
         match self {
             CodecPacketizer::H264(it) => it.packetize(mtu, b),
@@ -214,6 +126,7 @@ impl Packetizer for CodecPacketizer {
 
     /// Whether a packet bears the marker bit, as the packetizer that it holds says. Of a codec: the
     /// last packet of an access unit.
+    #[inline]
     fn is_marker(&mut self, data: &[u8], previous: Option<&[u8]>, last: bool) -> bool {
         match self {
             CodecPacketizer::H264(it) => it.is_marker(data, previous, last),
@@ -225,6 +138,7 @@ impl Packetizer for CodecPacketizer {
 
     /// Whether the marker bit marks the start of a talkspurt, as the packetizer that it holds says.
     /// It does so for no video codec.
+    #[inline]
     fn marks_talkspurt(&self) -> bool {
         match self {
             CodecPacketizer::H264(it) => it.marks_talkspurt(),
@@ -236,6 +150,7 @@ impl Packetizer for CodecPacketizer {
 
     /// Whether a receiver may ask for a lost packet again, as the packetizer that it holds says. Of
     /// a codec it may.
+    #[inline]
     fn nackable(&self) -> bool {
         match self {
             CodecPacketizer::H264(it) => it.nackable(),

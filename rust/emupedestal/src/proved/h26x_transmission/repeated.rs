@@ -2,16 +2,15 @@
 
 //! Payloads sent, written, and sent again.
 
-use crate::proved::h26x_codec::Codec;
-use crate::proved::h26x_core::{CodecExtra, PacketError, Packetizer};
-use crate::proved::h26x_transmission::carried::Packets;
+use crate::Codec;
 use crate::proved::h26x_transmission::depacketizer::CodecDepacketizer;
 use crate::proved::h26x_transmission::packetizer::CodecPacketizer;
 use crate::proved::h26x_transmission::transmissions::deliver;
-use crate::proved::h264_payload::{H264Depacketizer, H264Packetizer};
-use crate::proved::h265_payload::{H265Depacketizer, H265Packetizer};
-use crate::proved::h266_payload::{H266Depacketizer, H266Packetizer};
 use crate::support::TryVec;
+use crate::{CodecExtra, PacketError, Packetizer};
+use crate::{H264Depacketizer, H264Packetizer};
+use crate::{H265Depacketizer, H265Packetizer};
+use crate::{H266Depacketizer, H266Packetizer};
 use alloc::vec::Vec;
 
 /// A packetizer of a codec with this setting for numbers and this largest packet size.
@@ -54,34 +53,36 @@ fn depacketizer_with(codec: Codec, donl: bool) -> CodecDepacketizer {
 fn packetize_all(
     p: &mut CodecPacketizer,
     limit: usize,
-    payloads: &[Vec<u8>],
+    payloads: &[impl AsRef<[u8]>],
 ) -> Result<Vec<Vec<u8>>, PacketError> {
     let mut packets = Vec::new();
     for payload in payloads {
-        let mut made = p.packetize(limit, payload)?;
+        let mut made = p.packetize(limit, payload.as_ref())?;
         packets.try_append(&mut made)?;
     }
     Ok(packets)
 }
 
 /// What was sent, written, and sent again.
+#[derive(Clone, PartialEq, Eq, Hash)]
 pub struct Repeated {
     /// The packets of all payloads.
-    pub first: Packets,
+    pub first: Vec<Vec<u8>>,
     /// What a depacketizer writes for them, in Annex B.
     pub written: Vec<u8>,
     /// The packets of that as one payload.
-    pub second: Packets,
+    pub second: Vec<Vec<u8>>,
 }
 
 /// Of bytes it tells how many there are.
 impl core::fmt::Debug for Repeated {
     fn fmt(&self, f: &mut core::fmt::Formatter<'_>) -> core::fmt::Result {
         use crate::support::Count;
+        use crate::support::Counts;
         f.debug_struct("Repeated")
-            .field("first", &self.first)
+            .field("first", &Counts(&self.first))
             .field("written", &Count(self.written.len()))
-            .field("second", &self.second)
+            .field("second", &Counts(&self.second))
             .finish()
     }
 }
@@ -92,7 +93,7 @@ fn again_with(
     d: &mut CodecDepacketizer,
     q: &mut CodecPacketizer,
     limit: usize,
-    payloads: &[Vec<u8>],
+    payloads: &[impl AsRef<[u8]>],
 ) -> Result<Repeated, PacketError> {
     let first = packetize_all(p, limit, payloads)?;
     let mut written = Vec::new();
@@ -100,9 +101,9 @@ fn again_with(
     deliver(d, &first, &mut written, &mut extra)?;
     let second = q.packetize(limit, &written)?;
     Ok(Repeated {
-        first: Packets::from_vec(first),
+        first,
         written,
-        second: Packets::from_vec(second),
+        second,
     })
 }
 
@@ -124,7 +125,7 @@ pub fn again(
     donl: bool,
     max_packet_size: u16,
     limit: usize,
-    payloads: &[Vec<u8>],
+    payloads: &[impl AsRef<[u8]>],
 ) -> Result<Repeated, PacketError> {
     assert!(4 <= max_packet_size);
     let mut p = packetizer_with(codec, donl, max_packet_size);

@@ -2,22 +2,20 @@
 
 //! Whole transmissions: calls of a packetizer, and their packets through a depacketizer.
 
-use crate::proved::h26x_core::{CodecExtra, Depacketizer, PacketError, Packetizer};
-use crate::proved::h26x_transmission::carried::{Carried, Marks, Packets};
-use crate::proved::h26x_transmission::depacketizer::CodecDepacketizer;
-use crate::proved::h26x_transmission::packetizer::CodecPacketizer;
+use crate::proved::h26x_transmission::carried::Carried;
 use crate::support::TryVec;
+use crate::{CodecExtra, Depacketizer, PacketError, Packetizer};
 use alloc::vec::Vec;
 
 /// Gives packets to a depacketizer in order, up to the first that is refused.
 pub(crate) fn deliver(
-    d: &mut CodecDepacketizer,
-    packets: &[Vec<u8>],
+    d: &mut (impl Depacketizer + ?Sized),
+    packets: &[impl AsRef<[u8]>],
     out: &mut Vec<u8>,
     extra: &mut CodecExtra,
 ) -> Result<(), PacketError> {
     for packet in packets {
-        d.depacketize(packet, out, extra)?;
+        d.depacketize(packet.as_ref(), out, extra)?;
     }
     Ok(())
 }
@@ -25,8 +23,8 @@ pub(crate) fn deliver(
 /// One call through both endpoints. The answer is whether it was made; its packets come behind
 /// `packets` once all of them were taken.
 fn carry_call(
-    p: &mut CodecPacketizer,
-    d: &mut CodecDepacketizer,
+    p: &mut (impl Packetizer + ?Sized),
+    d: &mut (impl Depacketizer + ?Sized),
     mtu: usize,
     payload: &[u8],
     packets: &mut Vec<Vec<u8>>,
@@ -46,22 +44,19 @@ fn carry_call(
 
 /// Calls through both endpoints, one after the other, up to the first packet that is refused.
 fn carry_calls(
-    p: &mut CodecPacketizer,
-    d: &mut CodecDepacketizer,
-    calls: &[(usize, Vec<u8>)],
+    p: &mut (impl Packetizer + ?Sized),
+    d: &mut (impl Depacketizer + ?Sized),
+    calls: &[(usize, impl AsRef<[u8]>)],
     out: &mut Vec<u8>,
     extra: &mut CodecExtra,
 ) -> Result<Carried, PacketError> {
     let mut packets = Vec::new();
     let mut made = Vec::try_with_room(calls.len())?;
     for (mtu, payload) in calls {
-        let was_made = carry_call(p, d, *mtu, payload, &mut packets, out, extra)?;
+        let was_made = carry_call(p, d, *mtu, payload.as_ref(), &mut packets, out, extra)?;
         made.push(was_made);
     }
-    Ok(Carried {
-        packets: Packets::from_vec(packets),
-        made: Marks::from_vec(made),
-    })
+    Ok(Carried { packets, made })
 }
 
 /// Gives calls to a packetizer, each its `mtu` in bytes and its payload, and the packets of each to
@@ -73,9 +68,9 @@ fn carry_calls(
 /// `OutOfMemory`. After any error `out` and `extra` are what a front of the packets brought, `d`
 /// stands behind that front and `p` behind the calls made.
 pub fn carry(
-    p: &mut CodecPacketizer,
-    d: &mut CodecDepacketizer,
-    calls: &[(usize, Vec<u8>)],
+    p: &mut (impl Packetizer + ?Sized),
+    d: &mut (impl Depacketizer + ?Sized),
+    calls: &[(usize, impl AsRef<[u8]>)],
     out: &mut Vec<u8>,
     extra: &mut CodecExtra,
 ) -> Result<Carried, PacketError> {
