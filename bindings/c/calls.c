@@ -155,6 +155,7 @@ static void *run(void *at)
         check_answer_rows(&work->tally);
         check_direction_rows(&work->tally);
         check_unit_rows(&work->tally);
+        check_place_rows(&work->tally);
         check_datagrams(&work->tally);
         check_many(&work->tally);
         check_optional(&work->tally);

@@ -45,6 +45,7 @@ void check_sdp_rows(struct tally *t);
 void check_answer_rows(struct tally *t);
 void check_direction_rows(struct tally *t);
 void check_unit_rows(struct tally *t);
+void check_place_rows(struct tally *t);
 void check_datagrams(struct tally *t);
 void check_many(struct tally *t);
 void check_optional(struct tally *t);

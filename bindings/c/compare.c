@@ -31,7 +31,7 @@
     X(sdp_read) X(sdp_of_payload) X(fits_single_units) X(rtpmap_read) X(rtpmap_write)              \
     X(repairmap_read) X(repairmap_write) X(rtx_format_read) X(rtx_format_write)                    \
     X(is_partition_head) X(is_partition_tail) X(detect_keyframe) X(detect_h264_nalu) X(next_unit)  \
-    X(set_lowest_header) X(begins_keyframe)                                                        \
+    X(set_lowest_header) X(begins_keyframe) X(next_avc_unit)                                       \
     X(is_rtcp) X(rtp_read) X(rtp_element_next) X(rtp_original) X(rtp_write) X(rtp_write_before)    \
     X(rtx_write) X(red_primary) X(red_blocks) X(pli_write) X(pli_read) X(fir_write) X(fir_read) X(receiver_report_write)      \
     X(receiver_report_read) X(nack_write) X(nack_read) X(rtcp_next) X(rtp_statistics_receive)      \
@@ -180,6 +180,7 @@ static void draw_input(enum call call, uint32_t codec)
     case CALL_packetize_units_into:
     case CALL_units_size:
     case CALL_next_unit:
+    case CALL_next_avc_unit:
     case CALL_sdp_of_payload:
     case CALL_fits_single_units:
         draw_payload(&input, codec);
@@ -804,6 +805,9 @@ static uint64_t looks(int s, const struct drawn *d, struct answer *a, struct out
     case CALL_next_unit:
         return l->next_unit(d->codec, d->bytes, d->len, d->x % 3 == 0 ? 0 : d->y % (d->len + 2),
                             WANTED(0, &o->count), WANTED(1, &o->size));
+    case CALL_next_avc_unit:
+        return l->next_avc_unit(d->bytes, d->len, d->x % 3 == 0 ? 0 : d->y % (d->len + 2),
+                                WANTED(0, &o->count), WANTED(1, &o->size));
     case CALL_unit_is_plain:
         return l->unit_is_plain(d->codec, d->bytes, d->len);
     case CALL_out_size_hint:

@@ -193,12 +193,44 @@ static bool has_last_unit(const char *front, size_t times, const char *end)
     return is_so;
 }
 
+/* Whether a text behind lengths has the units that a plain walk finds. */
+static bool is_as_walked(const uint8_t *text, size_t len)
+{
+    size_t begin, end = 0;
+    for (size_t at = 0, unit; len - at >= 4; at += unit) {
+        unit = (size_t)text[at] << 24 | text[at + 1] << 16 | text[at + 2] << 8 | text[at + 3];
+        at += 4;
+        if (unit > len - at)
+            break;
+        if (unit > 0 && !(h26x_next_avc_unit(text, len, end, &begin, &end) && begin == at && end == at + unit))
+            return false;
+    }
+    return !h26x_next_avc_unit(text, len, end, &begin, &end);
+}
+
+/* Every text of at most nine bytes of 0, 1 and 2, as it is and behind a length that begins with zeros. */
+static void check_short_texts(struct tally *t)
+{
+    size_t count = 0, same = 0;
+    for (size_t len = 0, all = 1; len < 10; len++, all *= 3) {
+        for (size_t number = 0; number < all; number++, count++) {
+            uint8_t text[12] = {0, 0, 0};
+            size_t rest = number;
+            for (size_t at = 0; at < len; at++, rest /= 3)
+                text[3 + at] = (uint8_t)(rest % 3);
+            same += is_as_walked(text + 3, len) && is_as_walked(text, 3 + len);
+        }
+    }
+    expect(t, count == 29524 && same == count);
+}
+
 void check_cutting(struct tally *t)
 {
     check_units(t);
     check_places(t);
     check_short_payloads(t);
     check_a_code_at_each_place(t);
+    check_short_texts(t);
     /* A code behind many zeros that are of none, and behind a long run of zeros. */
     expect(t, has_last_unit("00000201", 1000, "000001 65aa"));
     expect(t, has_last_unit("00", 100000, "01 65aa"));

@@ -183,6 +183,22 @@ static void cut(uint32_t codec, struct input payload)
     saw(6, codec, about(count), about(payload.len));
 }
 
+/* So do those of a text behind lengths, where a plain walk finds them. */
+static void cut_by_lengths(struct input text)
+{
+    const uint8_t *at = copied(PACKET, text);
+    size_t begin = NOT_SAID, end = 0;
+    for (size_t place = 0, unit; text.len - place >= 4; place += unit) {
+        unit = (size_t)at[place] << 24 | at[place + 1] << 16 | at[place + 2] << 8 | at[place + 3];
+        place += 4;
+        if (unit > text.len - place)
+            break;
+        if (unit > 0)
+            expect(h26x_next_avc_unit(at, text.len, end, &begin, &end) && begin == place && end == place + unit);
+    }
+    expect(!h26x_next_avc_unit(at, text.len, end, &begin, &end));
+}
+
 /* What is plain, byte by byte: neither 00 00 00 nor 00 00 01 stands in a unit, no zero ends it, and its header is one
  * of the video itself (RFC 6184, 5.2, table 1; RFC 7798, 1.1.4 and 4.4; RFC 9328, 1.1.4 and 4.3). */
 static bool is_plain(uint32_t codec, struct input unit)
@@ -292,6 +308,7 @@ int LLVMFuzzerTestOneInput(const uint8_t *at, size_t len)
             c.limit = c.mtu < it.max_size ? c.mtu : it.max_size;
         send_call(&it, &c);
         cut(it.set.codec, c.bytes);
+        cut_by_lengths(c.bytes);
         look(it.set.codec, c.bytes);
         pack(c.bytes);
         name(c.bytes);

@@ -1033,6 +1033,22 @@ static void check_next_unit(void)
                                  given.first, given.second));
 }
 
+STUB(next_avc_unit);
+bool proved_next_avc_unit(const uint8_t *text, size_t text_len, size_t from, size_t *begin, size_t *end)
+{
+    expect(from == given.other_value);
+    reads(text, text_len, given.in);
+    is_output(begin, given.first);
+    is_output(end, given.second);
+    return answer() != 0;
+}
+
+static void check_next_avc_unit(void)
+{
+    give(IN | FIRST | SECOND);
+    hands_on_bool(h26x_next_avc_unit(given.in.at, given.in.len, given.other_value, given.first, given.second));
+}
+
 STUB(unit_is_plain);
 bool proved_unit_is_plain(uint32_t codec, const uint8_t *unit, size_t unit_len)
 {
@@ -2051,6 +2067,7 @@ static void check_looking(void)
     in_each_case(check_detect_h264_nalu);
     in_each_case(check_set_lowest_header);
     in_each_case(check_next_unit);
+    in_each_case(check_next_avc_unit);
     in_each_case(check_unit_is_plain);
     in_each_case(check_h264_profile_level);
 }

@@ -137,13 +137,11 @@ static void check_plain_units(struct tally *t)
 /* How many units behind lengths there are, if each is plain; else 0. */
 static size_t plain_units_in(uint32_t codec, const uint8_t *text, size_t len)
 {
-    size_t count = 0, unit;
-    for (size_t at = 0; at < len; at += 4 + unit, count++) {
-        unit = (size_t)text[at] << 24 | text[at + 1] << 16 | text[at + 2] << 8 | text[at + 3];
-        if (!h26x_unit_is_plain(codec, text + at + 4, unit))
+    size_t count = 0, begin, end = 0;
+    for (; h26x_next_avc_unit(text, len, end, &begin, &end); count++)
+        if (!h26x_unit_is_plain(codec, text + begin, end - begin))
             return 0;
-    }
-    return count;
+    return end == len ? count : 0;
 }
 
 /* Packets whose units hide others: of H.264 in the text, of H.265 as a fragment in an aggregate. */

@@ -33,6 +33,7 @@ static void check_empty_inputs(struct tally *t, uint32_t codec)
     expect(t, !h26x_begins_keyframe(codec, true, NULL, 0));
     expect(t, h26x_is_partition_tail(codec, true, NULL, 0) == (codec == H26X_H264));
     expect(t, !h26x_next_unit(codec, NULL, 0, 0, NULL, NULL) && !h26x_unit_is_plain(codec, NULL, 0));
+    expect(t, !h26x_next_avc_unit(NULL, 0, 0, NULL, NULL));
     h26x_packetizer_free(p);
     h26x_depacketizer_free(d);
     h26x_receiver_free(r);
@@ -77,6 +78,7 @@ static void check_inputs_of_null(struct tally *t, uint32_t codec, size_t len)
     expect(t, !h26x_detect_h264_nalu(NULL, len, 0));
     h26x_set_lowest_header(codec, true, NULL, len);
     expect(t, !h26x_next_unit(codec, NULL, len, 0, &begin, &end) && begin == 9 && end == 9);
+    expect(t, !h26x_next_avc_unit(NULL, len, 0, &begin, &end) && begin == 9 && end == 9);
     expect(t, !h26x_unit_is_plain(codec, NULL, len));
     h26x_packetizer_free(p);
     h26x_depacketizer_free(d);

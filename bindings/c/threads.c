@@ -243,10 +243,12 @@ static void ask_shared_ends(const struct shared *s, const struct codec *c)
 static void ask(const struct codec *c)
 {
     static const uint8_t payload[] = {0, 0, 1, 0x65, 1, 2, 0, 0, 1, 0x41, 3};
+    static const uint8_t lengths[] = {0, 0, 0, 1, 0x65};
     static const uint16_t numbers[] = {5, 22};
     uint8_t unit[2 + UNIT];
     size_t begin, end;
     expect(h26x_next_unit(c->number, payload, sizeof payload, 0, &begin, &end) && begin == 3 && end == 6);
+    expect(h26x_next_avc_unit(lengths, sizeof lengths, 0, &begin, &end) && begin == 4 && end == 5);
     expect(h26x_unit_is_plain(c->number, c->header, c->header_len));
     expect(h26x_detect_keyframe(c->number, c->header, 2));
     expect(h26x_begins_keyframe(c->number, false, unit, make_unit(c, 1, unit)));

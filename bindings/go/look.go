@@ -63,10 +63,11 @@ func IsPlainUnit(codec Codec, unit []byte) bool {
 	return bool(C.h26x_unit_is_plain(C.uint32_t(codec), at(unit), C.size_t(len(unit))))
 }
 
-// Units goes through the units of a payload, in order: call Next, and Unit where it answers true. A payload
+// Units goes through the units of a payload, in order: call Next, and Unit or Place where it answers true. A payload
 // without a start code is one unit, and an empty unit is left out.
 type Units struct {
 	codec      Codec
+	avc        bool
 	payload    []byte
 	begin, end C.size_t
 	found      bool
@@ -77,18 +78,36 @@ func UnitsOf(codec Codec, payload []byte) *Units {
 	return &Units{codec: codec, payload: payload}
 }
 
+// AVCUnitsOf goes through the units of a text, each behind its length of four bytes, as SetAVC has them written. It
+// ends where fewer bytes are left than a length tells.
+func AVCUnitsOf(text []byte) *Units {
+	return &Units{avc: true, payload: text}
+}
+
 // Next goes to the next unit. False where none is left.
 func (u *Units) Next() bool {
+	if u.avc {
+		u.found = bool(C.h26x_next_avc_unit(at(u.payload), C.size_t(len(u.payload)), u.end, &u.begin, &u.end))
+		return u.found
+	}
 	u.found = bool(C.h26x_next_unit(C.uint32_t(u.codec), at(u.payload), C.size_t(len(u.payload)), u.end,
 		&u.begin, &u.end))
 	return u.found
 }
 
-// Unit is the unit that Next went to, without its start code: a part of the payload, not a copy. It is nil
+// Unit is the unit that Next went to, without its start code or length: a part of the payload, not a copy. It is nil
 // where Next answered false.
 func (u *Units) Unit() []byte {
 	if !u.found {
 		return nil
 	}
 	return u.payload[u.begin:u.end:u.end]
+}
+
+// Place is where that unit begins in the payload, and where it ends. Both are 0 where Next answered false.
+func (u *Units) Place() (begin, end int) {
+	if !u.found {
+		return 0, 0
+	}
+	return int(u.begin), int(u.end)
 }

@@ -818,6 +818,13 @@ H26X_API void h26x_set_lowest_header(uint32_t codec, bool numbers, uint8_t *pack
 H26X_API bool h26x_next_unit(uint32_t codec, const uint8_t *payload, size_t payload_len, size_t from, size_t *begin,
                              size_t *end) H26X_MUST_USE;
 
+/** Where the next unit of a text stands whose units are behind their lengths, as with `avc`, from `from` on: the bytes
+ * from *begin up to *end, which are written where the answer is true. Begin with 0, and go on from *end. An empty unit
+ * is left out. False where no unit is left, or fewer bytes than its length tells: of a whole text the last unit ends at
+ * its end (ISO/IEC 14496-15). */
+H26X_API bool h26x_next_avc_unit(const uint8_t *text, size_t text_len, size_t from, size_t *begin,
+                                 size_t *end) H26X_MUST_USE;
+
 /** Whether a unit, its header first, is plain: one of the video itself, in whose Annex B text no reader finds another.
  * Its header is whole, with F 0 (of H.266 Z too) and a type that no packets use: H.264 1 to 23, H.265 0 to 47, H.266
  * 0 to 27; it holds neither 00 00 00 nor 00 00 01, and doesn't end in a zero (H.264, 7.4.1 and B.2; H.265 and H.266,

@@ -47,6 +47,7 @@ PROVED(begins_keyframe);
 PROVED(detect_h264_nalu);
 PROVED(set_lowest_header);
 PROVED(next_unit);
+PROVED(next_avc_unit);
 PROVED(unit_is_plain);
 PROVED(h264_profile_level);
 PROVED(is_rtcp);
@@ -459,6 +460,12 @@ bool h26x_next_unit(uint32_t codec, const uint8_t *payload, size_t payload_len, 
     size_t unwanted[2];
     return proved_next_unit(codec, BYTES(payload, payload_len), from, WANTED(begin, &unwanted[0]),
                             WANTED(end, &unwanted[1]));
+}
+
+bool h26x_next_avc_unit(const uint8_t *text, size_t text_len, size_t from, size_t *begin, size_t *end)
+{
+    size_t unwanted[2];
+    return proved_next_avc_unit(BYTES(text, text_len), from, WANTED(begin, &unwanted[0]), WANTED(end, &unwanted[1]));
 }
 
 bool h26x_unit_is_plain(uint32_t codec, const uint8_t *unit, size_t unit_len)

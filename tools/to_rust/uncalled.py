@@ -39,9 +39,9 @@ UNCALLED = {
 C, TESTS = "the C library has it", "tests have it"
 # By their files: functions, types, and modules with all that is in them.
 OTHERS = {
+    "h26x_codec/any_depacketizer.rt": {"depacketize_as": C},
     "h26x_codec/lib.rt": {"any_packetizer": C},
     "h26x_core/traits.rt": {"marks_talkspurt": TESTS, "nackable": TESTS},
-    "h26x_cut/slices.rt": {"next_unit": C},
     "h26x_depacketizer/lib.rt": {"memory": C},
     "h26x_packetizer/buffer.rt": {"bytes": C, "clear": C, "packet": C, "packet_ends": C},
     "h26x_rtp_sender/payloads.rt": {"are_in_memory": C},

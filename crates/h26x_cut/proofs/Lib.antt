@@ -7,3 +7,4 @@ pub mod LeastLemmas
 pub mod SearchLemmas
 pub mod ZeroLemmas
 pub mod UnitLemmas
+pub mod LengthLemmas

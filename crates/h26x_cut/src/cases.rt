@@ -3,6 +3,7 @@
 ghost use Rattle.std.specs.Prelude.{◌≡◌, [], ◌∷◌};
 ghost use Rattle.std.specs.List.{AllByRecursion};
 ghost use Rattle.h26x_cut.specs.Cutting.{units_of, IsCutting, AreUnits, IsUnit, AreSeparable, EndsCodeAt, IsNextUnit};
+ghost use Rattle.h26x_cut.specs.Lengths.{IsNextAvcUnit, BeginsWithUnit};
 ghost use Rattle.h26x_cut.specs.declared.ZeroRule.TheVariants.{All, AtMostThree};
 
 /// Zeros before a mark belong to the start code: all of them by one rule, three by the other.
@@ -55,4 +56,14 @@ pub fn places()
     ensures zero { IsNextUnit (units_of AtMostThree) (0 ∷ 0 ∷ 1 ∷ 0xaa ∷ 0 ∷ 0 ∷ 0 ∷ 0 ∷ 1 ∷ []) 0 3 5 }
     ensures one { IsNextUnit (units_of All) (0xaa ∷ 0 ∷ []) 0 0 2 }
     ensures other { IsNextUnit (units_of All) (0 ∷ 0 ∷ 1 ∷ 0xaa ∷ 0 ∷ 0 ∷ 1 ∷ 0xaa ∷ []) 0 7 8 → ⊥ }
+{}
+
+/// Units behind lengths by their places: from the front, from the end of one, behind a length of 0, and
+/// where fewer bytes are left than the length tells.
+pub fn avc_places()
+    ensures first { IsNextAvcUnit (0 ∷ 0 ∷ 0 ∷ 2 ∷ 0x67 ∷ 0x42 ∷ 0 ∷ 0 ∷ 0 ∷ 1 ∷ 0x65 ∷ []) 0 4 6 }
+    ensures next { IsNextAvcUnit (0 ∷ 0 ∷ 0 ∷ 2 ∷ 0x67 ∷ 0x42 ∷ 0 ∷ 0 ∷ 0 ∷ 1 ∷ 0x65 ∷ []) 6 10 11 }
+    ensures empty { IsNextAvcUnit (0 ∷ 0 ∷ 0 ∷ 0 ∷ 0 ∷ 0 ∷ 0 ∷ 1 ∷ 0x65 ∷ 0xaa ∷ []) 0 8 9 }
+    ensures short { IsNextAvcUnit (0 ∷ 0 ∷ 0 ∷ 2 ∷ 0x65 ∷ []) 0 4 6 → ⊥ }
+    ensures other { IsNextAvcUnit (0 ∷ 0 ∷ 0 ∷ 1 ∷ 0x65 ∷ 0 ∷ 0 ∷ 0 ∷ 1 ∷ 0x41 ∷ []) 0 9 10 → ⊥ }
 {}

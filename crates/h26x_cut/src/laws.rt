@@ -1,10 +1,11 @@
 //! Laws of the cutting grammar. Each is the contract of a function without a result.
 
-ghost use Rattle.std.specs.Prelude.{◌≡◌, ℕ, List};
+ghost use Rattle.std.specs.Prelude.{◌≡◌, ◌<◌, ◌+◌, ◌^◌, ◌++◌, ◌∷◌, [], ℕ, List, true, length, replicate};
 ghost use Rattle.std.specs.List.{AllByRecursion};
 ghost use Rattle.h26x_core.specs.Mark.{IsMark};
-ghost use Rattle.h26x_core.specs.ByteStream.{annex_b};
+ghost use Rattle.h26x_core.specs.ByteStream.{annex_b, byte_stream};
 ghost use Rattle.h26x_cut.specs.Cutting.{EndsCodeAt, IsCutting, cut_segments, AreUnits, IsUnit, AreSeparable, units_of};
+ghost use Rattle.h26x_cut.specs.Lengths.{IsNextAvcUnit};
 
 use crate::ZeroRule;
 
@@ -36,4 +37,15 @@ pub fn units_are_whole()
 pub fn text_is_cut_into_its_units()
     ensures { (rule : ZeroRule) (units : List (List ℕ)) → AllByRecursion IsUnit units →
         AreSeparable rule units → AreUnits rule (annex_b units) units }
+{}
+
+/// Of units that are written behind lengths, from the end of some on the next is the first that isn't
+/// empty.
+pub fn units_behind_lengths_are_found()
+    ensures { (before : List (List ℕ)) (empty : ℕ) (unit : List ℕ) (after : List (List ℕ)) →
+        0 < length unit → length unit < 2 ^ 32 →
+        let lengths = byte_stream true (replicate empty []) in
+        let begin = length (byte_stream true before) + length lengths + 4 in
+        IsNextAvcUnit (byte_stream true (before ++ (replicate empty [] ++ unit ∷ after)))
+        (length (byte_stream true before)) begin (begin + length unit) }
 {}

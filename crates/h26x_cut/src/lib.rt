@@ -1,5 +1,5 @@
 //! Start codes, and the units between them: the cutting of a payload (Annex B of H.264, H.265 and
-//! H.266).
+//! H.266); and the units of a text behind lengths.
 #![tactic(auto)]
 
 mod behind;
@@ -7,12 +7,14 @@ mod blocks;
 mod cases;
 mod codes;
 pub mod laws;
+mod lengths;
 mod marks;
 mod portable;
 mod search;
 mod slices;
 
 pub use codes::behind_code;
+pub use lengths::next_avc_unit;
 pub use slices::{UnitSlices, next_unit, units};
 
 /// How many zeros before its mark, `01`, a start code takes (Annex B of H.264, H.265 and H.266).

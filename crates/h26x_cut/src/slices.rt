@@ -135,6 +135,7 @@ impl<'a> Iterator for UnitSlices<'a> {
 
     ghost remaining = { item_count (λ s. s) };
 
+    #[inline(always)]
     fn next(&mut self) -> Option<&'a [u8]> {
         while !self.rest.is_empty() {
             match self.next_code {

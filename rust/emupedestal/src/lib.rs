@@ -154,7 +154,7 @@ mod tests;
 pub use access_unit_receiver::{AccessUnitConfig, AccessUnitReceiver, NackTimes};
 pub use assembler::AccessUnitAssembler;
 pub use depacketizer::{H264Depacketizer, H265Depacketizer, H266Depacketizer};
-pub use look::{Units, detect_keyframe, set_lowest_header, units};
+pub use look::{AvcUnits, Units, avc_units, detect_keyframe, next_unit, set_lowest_header, units};
 pub use packet::{Depacketizer, Packetizer};
 pub use packetizer::{H264Packetizer, H265Packetizer, H266Packetizer};
 pub use packets::{PacketIter, Packets};

@@ -10,7 +10,7 @@
 //! | `h26x_packetizer` | `payloads`: single packets, fragments, aggregates, limits; `packets`: those in a caller's buffer; `numbers`: DON; `every_unit`, `unit_lists`: packets of all units; `every_unit_received`: what then comes; `unit_rows`: texts of them; `buffers`: a buffer of packets |
 //! | `h26x_depacketizer` | `units`: what is written and told; `refusals`; `quiet`: with and without what is shown; `open_text`: a text that is given up, the run in it, and its memory |
 //! | `h265_packets` | `packets`: equality, buffers; `shown`: what a depacketizer shows, PACI packets |
-//! | `h26x_codec` | `look`: keyframes, heads, tails, hints, units of a payload |
+//! | `h26x_codec` | `look`: keyframes, heads, tails, hints, units of a payload; `place_rows`: texts of units and their places |
 //! | `h26x_transmission` | `codecs`: ends of any codec and in a box; `ends`: copies, equality, debug text; `threads`; `take_all`: packets lost, cut and refused; `long_unit`: 100,000 bytes through both ends |
 //! | `h26x_receiver` | packets by sequence numbers: missing, late, too long |
 //! | `h26x_assembler` | `assembler`: order and access units; `one_by_one`: limits; `network`: losses, drawn, beside a plain model |
@@ -50,6 +50,7 @@ mod h26x_assembler {
 }
 mod h26x_codec {
     mod look;
+    mod place_rows;
 }
 mod h26x_core {
     mod words;

@@ -131,6 +131,7 @@ from .errors import (
     WrongEnd,
 )
 from .look import (
+    avc_units,
     begins_keyframe,
     detect_h264_nalu,
     detect_keyframe,
@@ -139,6 +140,7 @@ from .look import (
     is_plain_unit,
     out_size_hint,
     set_lowest_header,
+    unit_places,
     units,
 )
 from .packetizer import Packetizer, Packing
@@ -366,6 +368,7 @@ __all__ = [
     "UnitsSoFar",
     "UnknownCodec",
     "WrongEnd",
+    "avc_units",
     "begins_keyframe",
     "detect_h264_nalu",
     "detect_keyframe",
@@ -384,6 +387,7 @@ __all__ = [
     "red_primary",
     "rtcp_packets",
     "set_lowest_header",
+    "unit_places",
     "units",
     "version",
     "write_rtx",

@@ -468,6 +468,7 @@ CALLS: Dict[str, Tuple[Any, List[Any]]] = {
     "detect_h264_nalu": (c_bool, [*_IN, c_uint8]),
     "set_lowest_header": (None, [c_uint32, c_bool, _BYTE, c_size_t]),
     "next_unit": (c_bool, [c_uint32, *_IN, c_size_t, _SIZE, _SIZE]),
+    "next_avc_unit": (c_bool, [*_IN, c_size_t, _SIZE, _SIZE]),
     "unit_is_plain": (c_bool, [c_uint32, *_IN]),
     "out_size_hint": (c_size_t, [c_size_t]),
     "h264_profile_level": (c_bool, [c_uint32, _BYTE, _BYTE]),

@@ -3,7 +3,7 @@
 from __future__ import annotations
 
 from ctypes import POINTER, byref, c_size_t, c_uint8, cast
-from typing import Iterator, Union
+from typing import Iterator, Tuple, Union
 
 from ._library import library
 from ._memory import Buffer, Target, as_bytes, number
@@ -87,9 +87,46 @@ def units(codec: int, payload: Buffer) -> Iterator[bytes]:
 
 
 def _units(codec: Codec, data: bytes) -> Iterator[bytes]:
+    for begin, end in _places(codec, data):
+        yield data[begin:end]
+
+
+def avc_units(text: Buffer) -> Iterator[bytes]:
+    """The units of a text whose units stand behind their lengths of four bytes (`avc`), in order,
+    without empty ones. It ends where fewer bytes are left than a length tells.
+
+    >>> [unit.hex() for unit in avc_units(bytes.fromhex("00000002 6742 00000001 65"))]
+    ['6742', '65']
+    """
+    return _avc_units(as_bytes(text))
+
+
+def _avc_units(data: bytes) -> Iterator[bytes]:
+    for begin, end in _avc_places(data):
+        yield data[begin:end]
+
+
+def unit_places(codec: int, text: Buffer, avc: bool = False) -> Iterator[Tuple[int, int]]:
+    """Where each unit of a text begins and where it ends: of those that `units` gives, or with `avc` of
+    those that `avc_units` does. So nothing is copied. Raises UnknownCodec.
+
+    >>> list(unit_places(Codec.H264, bytes.fromhex("000001 6742 000001 65")))
+    [(3, 5), (8, 9)]
+    """
+    known, data = codec_of(codec), as_bytes(text)
+    return _avc_places(data) if avc else _places(known, data)
+
+
+def _places(codec: Codec, data: bytes) -> Iterator[Tuple[int, int]]:
     begin, end = c_size_t(), c_size_t()
     while library.h26x_next_unit(codec, data, len(data), end, byref(begin), byref(end)):
-        yield data[begin.value : end.value]
+        yield begin.value, end.value
+
+
+def _avc_places(data: bytes) -> Iterator[Tuple[int, int]]:
+    begin, end = c_size_t(), c_size_t()
+    while library.h26x_next_avc_unit(data, len(data), end, byref(begin), byref(end)):
+        yield begin.value, end.value
 
 
 def is_plain_unit(codec: int, unit: Buffer) -> bool:

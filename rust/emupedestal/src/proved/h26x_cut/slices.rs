@@ -81,7 +81,6 @@ pub fn units(payload: &[u8], rule: ZeroRule) -> UnitSlices<'_> {
 /// From 0 on it finds the first unit, and from the end of one the next, so that a caller who can't
 /// keep slices goes through the units of [`units`] by their places. `None` where no unit is left. It
 /// takes no memory and refuses nothing (Annex B of H.264, H.265 and H.266).
-#[allow(dead_code, reason = "the C library has it")]
 pub fn next_unit(payload: &[u8], rule: ZeroRule, from: usize) -> Option<Range<usize>> {
     let behind = payload.get(from..)?;
     let mut rest = match first_code(behind) {
@@ -106,6 +105,7 @@ pub fn next_unit(payload: &[u8], rule: ZeroRule, from: usize) -> Option<Range<us
 impl<'a> Iterator for UnitSlices<'a> {
     type Item = &'a [u8];
 
+    #[inline(always)]
     fn next(&mut self) -> Option<&'a [u8]> {
         while !self.rest.is_empty() {
             match self.next_code {

@@ -2286,6 +2286,27 @@ pub unsafe extern "C" fn h26x_next_unit(
 }
 
 #[unsafe(no_mangle)]
+pub unsafe extern "C" fn h26x_next_avc_unit(
+    text: *const u8,
+    text_len: usize,
+    from: usize,
+    begin: *mut usize,
+    end: *mut usize,
+) -> bool {
+    let mut no_begin = MaybeUninit::uninit();
+    let mut no_end = MaybeUninit::uninit();
+    // SAFETY: a caller owes what the header says.
+    unsafe {
+        super::units::h26x_next_avc_unit(
+            pointers::items(text, text_len),
+            from,
+            pointers::output(begin, &mut no_begin),
+            pointers::output(end, &mut no_end),
+        )
+    }
+}
+
+#[unsafe(no_mangle)]
 pub unsafe extern "C" fn h26x_unit_is_plain(codec: u32, unit: *const u8, unit_len: usize) -> bool {
     // SAFETY: a caller owes what the header says.
     unsafe { super::units::h26x_unit_is_plain(codec, pointers::items(unit, unit_len)) }

@@ -3,7 +3,7 @@
 //! The units of payloads, by their places, and what a unit is.
 
 use crate::proved::h26x_codes::code::codec_of;
-use crate::proved::h26x_cut::next_unit;
+use crate::proved::h26x_cut::{next_avc_unit, next_unit};
 use core::mem::MaybeUninit;
 
 /// Where the next unit of a payload stands, from a place on.
@@ -25,6 +25,21 @@ pub fn h26x_next_unit(
         }
         None => false,
     }
+}
+
+/// Where the next unit of a text behind lengths stands, from a place on.
+pub fn h26x_next_avc_unit(
+    text: &[u8],
+    from: usize,
+    begin: &mut MaybeUninit<usize>,
+    end: &mut MaybeUninit<usize>,
+) -> bool {
+    let Some(found) = next_avc_unit(text, from) else {
+        return false;
+    };
+    begin.write(found.start);
+    end.write(found.end);
+    true
 }
 
 /// Whether a unit is plain: one of the video itself, in whose Annex B text no reader finds another.
