@@ -73,6 +73,7 @@ impl PacketReader for H264 {
 /// |F|NRI| type 24 |            length             |     unit      | length, unit, ..
 /// +-+-+-+-+-+-+-+-+-+-+-+-+-+-+-+-+-+-+-+-+-+-+-+-+- - - - - - - -+- - - - - - - - - - - -
 /// ```
+#[inline(always)]
 fn read_stap(packet: &[u8]) -> Result<Parts<'_>, PacketError>
     requires { type_of_first packet.now ≡ 24 }
     ensures accepted { IfOk result (λ parts. IsReadAs h264 stap_units packet.now parts) }

@@ -35,6 +35,7 @@ impl Aggregate for H264 {
 
 /// How many bytes the units of a STAP-A take where they are written, at most `usize::MAX`; one with
 /// a length that passes its end is refused.
+#[inline(always)]
 pub fn check_stap(bytes: &[u8]) -> Result<usize, PacketError>
     ensures whole { IfOk result (λ size. aggregate_of (pieces_of bytes.now) ≡ Aggregate
         (map without_don (stap_units bytes.now))) }

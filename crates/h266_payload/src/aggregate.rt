@@ -1,6 +1,6 @@
 //! The units of an aggregation packet (RFC 9328, 4.3.2).
 
-ghost use Rattle.std.specs.Prelude.{◌≡◌, ◌<◌, ◌≤◌, ◌-◌, ◌^◌, min, false, ℕ, Option, length, IfOk, IfErr, Ok, Err};
+ghost use Rattle.std.specs.Prelude.{◌≡◌, ◌<◌, ◌≤◌, ◌+◌, ◌-◌, ◌^◌, min, false, ℕ, Option, length, IfOk, IfErr, Ok, Err};
 ghost use Rattle.std.specs.List.{list_any};
 ghost use Rattle.h26x_model.specs.Receive.Outcome.{is_too_long};
 ghost use Rattle.h26x_core.specs.Pieces.{pieces_of, with_piece};
@@ -51,6 +51,8 @@ fn first_allowed(bytes: &[u8]) -> Result<(&[u8], &[u8]), PacketError>
         ≡ with_unit it.0.now (aggregate_outcome it.1.now)) }
     ensures short { IfOk result (λ it. is_too_long it.0.now ≡ false) }
     ensures less { IfOk result (λ it. length it.1.now < length bytes.now) }
+    ensures headed { IfOk result (λ it. 2 ≤ length it.0.now) }
+    ensures size { IfOk result (λ it. length bytes.now ≡ 2 + (length it.0.now + length it.1.now)) }
     ensures refused { IfErr result (λ e. aggregate_outcome bytes.now ≡ Err e) }
 {
     if bytes.len() < LENGTH_SIZE {
@@ -76,17 +78,16 @@ pub fn check_aggregate(bytes: &[u8]) -> Result<usize, PacketError>
         two_or_more don (aggregate_outcome bytes.now)
         ≡ Refused e) }
 {
-    let mut size: usize = 0;
     let mut count: usize = 0;
     let mut rest = bytes;
     while !rest.is_empty() {
-        let (unit, behind) = first_allowed(rest)?;
-        size = size.saturating_add(unit.len() + PREFIX_SIZE);
+        let (_, behind) = first_allowed(rest)?;
         count += 1;
         rest = behind;
     }
     if count < 2 {
         return Err(PacketError::ErrShortPacket);
     }
-    Ok(size)
+    // Each length grows to that of a start code.
+    Ok(bytes.len() + (PREFIX_SIZE - LENGTH_SIZE) * count)
 }

@@ -3,7 +3,7 @@
 ghost use Rattle.std.specs.Prelude.{◌≡◌, ◌≤◌, ◌+◌, ◌-◌, ◌^◌, ◌++◌, replicate, min, length, vec_len, vec_capacity};
 ghost use Rattle.h26x_packetizer.specs.Sending.{body_bytes, packet_bytes, packet_len};
 
-use crate::pieces::{copy_pieces, pieces_len, put_pieces};
+use crate::pieces::{copy_pieces, pieces_len, put_bytes, put_pieces};
 use h26x_payload::Sets;
 
 /// What stands behind a packet's header and its number.
@@ -61,19 +61,6 @@ impl<'a> Body<'a> {
             Body::Sets { sets, gap } => sets.copy_to(gap, to),
             Body::Units { units, gap } => copy_pieces(gap, units, to),
         }
-    }
-}
-
-/// Writes bytes, where there is room for them.
-#[inline(always)]
-fn put_bytes(from: &[u8], bytes: &mut Vec<u8>)
-    requires room { vec_len bytes.old + length from.now ≤ vec_capacity bytes.old }
-    ensures written { bytes.new.items ≡ bytes.old.items ++ from.now }
-    ensures len { vec_len bytes.new ≡ vec_len bytes.old + length from.now }
-    ensures capacity { vec_capacity bytes.old ≤ vec_capacity bytes.new }
-{
-    if !from.is_empty() {
-        bytes.extend_from_slice(from).unwrap();
     }
 }
 

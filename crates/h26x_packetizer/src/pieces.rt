@@ -54,15 +54,48 @@ pub(crate) fn copy_pieces(gap: &[u8], units: &[&[u8]], to: &mut [u8])
     }
 }
 
+/// Writes bytes, where there is room for them.
+#[inline(always)]
+pub(crate) fn put_bytes(from: &[u8], bytes: &mut Vec<u8>)
+    requires room { vec_len bytes.old + length from.now ≤ vec_capacity bytes.old }
+    ensures written { bytes.new.items ≡ bytes.old.items ++ from.now }
+    ensures len { vec_len bytes.new ≡ vec_len bytes.old + length from.now }
+    ensures capacity { vec_capacity bytes.old ≤ vec_capacity bytes.new }
+{
+    if !from.is_empty() {
+        bytes.extend_from_slice(from).unwrap();
+    }
+}
+
+/// Writes a unit behind its length, and behind these bytes, where there is room for them.
+#[inline(always)]
+fn put_piece(lead: &[u8], unit: &[u8], bytes: &mut Vec<u8>)
+    requires room { vec_len bytes.old + (length lead.now + (2 + length unit.now))
+        ≤ vec_capacity bytes.old }
+    ensures written { bytes.new.items ≡ bytes.old.items ++ (lead.now ++ piece unit.now) }
+    ensures len { vec_len bytes.new
+        ≡ vec_len bytes.old + (length lead.now + (2 + length unit.now)) }
+    ensures capacity { vec_capacity bytes.old ≤ vec_capacity bytes.new }
+{
+    let unit_len = unit.len();
+    let length = [(unit_len / 256 % 256) as u8, (unit_len % 256) as u8];
+    put_bytes(lead, bytes);
+    bytes.extend_from_slice(&length).unwrap();
+    bytes.extend_from_slice(unit).unwrap();
+}
+
 /// Writes units behind their lengths, where there is room for them; `gap` goes before the length of
 /// each but the first.
+#[inline]
 pub(crate) fn put_pieces(gap: &[u8], units: &[&[u8]], bytes: &mut Vec<u8>)
     requires room { vec_len bytes.old
         + length (sets_behind_lengths gap.now (lent_units units.now)) ≤ vec_capacity bytes.old }
     ensures { bytes.new.items ≡ bytes.old.items
         ++ sets_behind_lengths gap.now (lent_units units.now) }
 {
-    let start = bytes.len();
-    bytes.resize(start + pieces_len(gap, units), 0).unwrap();
-    copy_pieces(gap, units, &mut bytes[start..]);
+    let mut lead: &[u8] = &[];
+    for unit in units {
+        put_piece(lead, unit, bytes);
+        lead = gap;
+    }
 }

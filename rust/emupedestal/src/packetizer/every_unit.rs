@@ -54,8 +54,16 @@ fn with_sent<T>(
     call: impl FnOnce(&[&[u8]]) -> Result<T, EveryUnitError>,
 ) -> Result<T, EveryUnitError> {
     let mut units = h26x_cut::units(access_unit, codec.zero_rule()).filter(sends);
-    let mut few: [&[u8]; FEW_UNITS] = [&[]; FEW_UNITS];
-    for count in 0..FEW_UNITS {
+    let Some(first) = units.next() else {
+        return call(&[]);
+    };
+    // (most streams have one unit here: no list is filled for it)
+    let Some(second) = units.next() else {
+        return call(&[first]);
+    };
+    let mut few = [first; FEW_UNITS];
+    few[1] = second;
+    for count in 2..FEW_UNITS {
         match units.next() {
             Some(unit) => few[count] = unit,
             None => return call(&few[..count]),

@@ -1,4 +1,4 @@
-use Rattle.std.proofs.Common.{◌≡◌, ◌+◌, ◌-◌, ◌≤◌, ◌^◌, min, length}
+use Rattle.std.proofs.Common.{◌≡◌, ◌+◌, ◌*◌, ◌≤◌, length}
 use Rattle.std.specs.List.{list_any}
 use Rattle.h26x_model.specs.Receive.Outcome.{is_too_long}
 use Rattle.h26x_depacketizer.specs.Run.{written_len}
@@ -11,10 +11,9 @@ abbrev pub invariant-loop-rest : goal.invariant-loop-rest
 invariant-loop-rest l = record {
   fault : fault_of (aggregate_outcome l.rest) ≡ fault_of (aggregate_outcome l.bytes);
   units : l.count + length (aggregate_units l.rest) ≡ length (aggregate_units l.bytes);
-  long : l.count + length l.rest ≤ length l.bytes;
-  whole : min (l.size + written_len (aggregate_units l.rest)) (2 ^ 64 - 1) ≡ min (written_len (aggregate_units l.bytes)) (2 ^ 64 - 1);
+  long : 4 * l.count + length l.rest ≤ length l.bytes;
+  whole : written_len (aggregate_units l.rest) + (length l.bytes + 2 * l.count) ≡ written_len (aggregate_units l.bytes) + length l.rest;
   short : list_any is_too_long (aggregate_units l.rest) ≡ list_any is_too_long (aggregate_units l.bytes);
-  fits : l.size ≤ 2 ^ 64 - 1;
 }
 
 abbrev pub decreases-loop-rest : goal.decreases-loop-rest

@@ -22,23 +22,15 @@ fn is_forbidden(unit: &[u8]) -> bool {
     }
 }
 
-/// The greatest NRI of units.
-fn highest_nri(units: &[&[u8]]) -> u8 {
+/// The greatest NRI of units, and whether F of one of them is set.
+fn highest_of(units: &[&[u8]]) -> (u8, bool) {
     let mut highest = 0;
+    let mut forbidden = false;
     for unit in units {
         highest = nri_of(unit).max(highest);
+        forbidden = forbidden || is_forbidden(unit);
     }
-    highest
-}
-
-/// Whether F of one of the units is set.
-fn any_forbidden(units: &[&[u8]]) -> bool {
-    for unit in units {
-        if is_forbidden(unit) {
-            return true;
-        }
-    }
-    false
+    (highest, forbidden)
 }
 
 impl EveryFormat for H264 {
@@ -58,8 +50,9 @@ impl EveryFormat for H264 {
     }
 
     fn own_header(self, units: &[&[u8]]) -> [u8; 2] {
-        let forbidden = if any_forbidden(units) { 0x80 } else { 0 };
-        [forbidden + highest_nri(units) * 32 + 24, 0]
+        let (highest, forbidden) = highest_of(units);
+        let forbidden = if forbidden { 0x80 } else { 0 };
+        [forbidden + highest * 32 + 24, 0]
     }
 
     fn has_own_header(self, unit: &[u8]) -> bool {

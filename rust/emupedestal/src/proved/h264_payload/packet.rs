@@ -55,6 +55,7 @@ impl PacketReader for H264 {
 /// |F|NRI| type 24 |            length             |     unit      | length, unit, ..
 /// +-+-+-+-+-+-+-+-+-+-+-+-+-+-+-+-+-+-+-+-+-+-+-+-+- - - - - - - -+- - - - - - - - - - - -
 /// ```
+#[inline(always)]
 fn read_stap(packet: &[u8]) -> Result<Parts<'_>, PacketError> {
     let bytes = &packet[STAPA_HEADER_SIZE..];
     let size = check_stap(bytes)?;

@@ -26,6 +26,7 @@ impl Aggregate for H264 {
 
 /// How many bytes the units of a STAP-A take where they are written, at most `usize::MAX`; one with
 /// a length that passes its end is refused.
+#[inline(always)]
 pub fn check_stap(bytes: &[u8]) -> Result<usize, PacketError> {
     let mut size: usize = 0;
     let mut rest = bytes;

@@ -45,17 +45,16 @@ fn first_allowed(bytes: &[u8]) -> Result<(&[u8], &[u8]), PacketError> {
 /// The fault furthest left refuses it: a lone byte, or a length under 2 or past the end; a unit that
 /// is an aggregate or a fragment. So do fewer than two units.
 pub fn check_aggregate(bytes: &[u8]) -> Result<usize, PacketError> {
-    let mut size: usize = 0;
     let mut count: usize = 0;
     let mut rest = bytes;
     while !rest.is_empty() {
-        let (unit, behind) = first_allowed(rest)?;
-        size = size.saturating_add(unit.len() + PREFIX_SIZE);
+        let (_, behind) = first_allowed(rest)?;
         count += 1;
         rest = behind;
     }
     if count < 2 {
         return Err(PacketError::ErrShortPacket);
     }
-    Ok(size)
+    // Each length grows to that of a start code.
+    Ok(bytes.len() + (PREFIX_SIZE - LENGTH_SIZE) * count)
 }

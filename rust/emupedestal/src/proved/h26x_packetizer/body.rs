@@ -2,7 +2,7 @@
 
 //! What stands behind a packet's header and its number.
 
-use crate::proved::h26x_packetizer::pieces::{copy_pieces, pieces_len, put_pieces};
+use crate::proved::h26x_packetizer::pieces::{copy_pieces, pieces_len, put_bytes, put_pieces};
 use crate::proved::h26x_payload::Sets;
 use crate::support::AppendBytes;
 use alloc::vec::Vec;
@@ -50,14 +50,6 @@ impl<'a> Body<'a> {
             Body::Sets { sets, gap } => sets.copy_to(gap, to),
             Body::Units { units, gap } => copy_pieces(gap, units, to),
         }
-    }
-}
-
-/// Writes bytes, where there is room for them.
-#[inline(always)]
-fn put_bytes(from: &[u8], bytes: &mut Vec<u8>) {
-    if !from.is_empty() {
-        bytes.append_bytes(from);
     }
 }
 

@@ -18,7 +18,7 @@ fn may_share<C: EveryFormat>(codec: C, packing: Packing, unit: &[u8]) -> bool {
 /// Whether a unit with so many bytes before it fits the room that is left.
 #[inline]
 fn fits_room(each: usize, room: usize, unit: &[u8]) -> bool {
-    each <= room && unit.len() <= room - each && unit.len() < 65536
+    each + unit.len() <= room && unit.len() < 65536
 }
 
 /// How many units, from the first on, go in the room that is left.

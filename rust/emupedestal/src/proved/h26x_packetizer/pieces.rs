@@ -3,6 +3,7 @@
 //! Units behind their lengths, one behind the other, as an aggregate has them.
 
 use crate::proved::h26x_payload::copy_bytes;
+use crate::support::AppendBytes;
 use alloc::vec::Vec;
 
 /// How many bytes units take behind their lengths of two bytes, with `gap` before the length of each
@@ -41,10 +42,31 @@ pub(crate) fn copy_pieces(gap: &[u8], units: &[&[u8]], to: &mut [u8]) {
     }
 }
 
+/// Writes bytes, where there is room for them.
+#[inline(always)]
+pub(crate) fn put_bytes(from: &[u8], bytes: &mut Vec<u8>) {
+    if !from.is_empty() {
+        bytes.append_bytes(from);
+    }
+}
+
+/// Writes a unit behind its length, and behind these bytes, where there is room for them.
+#[inline(always)]
+fn put_piece(lead: &[u8], unit: &[u8], bytes: &mut Vec<u8>) {
+    let unit_len = unit.len();
+    let length = [(unit_len / 256 % 256) as u8, (unit_len % 256) as u8];
+    put_bytes(lead, bytes);
+    bytes.append_bytes(&length);
+    bytes.append_bytes(unit);
+}
+
 /// Writes units behind their lengths, where there is room for them; `gap` goes before the length of
 /// each but the first.
+#[inline]
 pub(crate) fn put_pieces(gap: &[u8], units: &[&[u8]], bytes: &mut Vec<u8>) {
-    let start = bytes.len();
-    bytes.resize(start + pieces_len(gap, units), 0);
-    copy_pieces(gap, units, &mut bytes[start..]);
+    let mut lead: &[u8] = &[];
+    for unit in units {
+        put_piece(lead, unit, bytes);
+        lead = gap;
+    }
 }
