@@ -30,9 +30,9 @@ use Rattle.h26x_access_units.specs.declared.pushed.Pushed.TheVariants as pushes
 use Rattle.h26x_access_units.specs.Counts.{counted_due, counted_skip, counted_answer, counted_dropped, counted_framing, counted_unit}
 use Rattle.h26x_access_units.specs.Pushed.{as_pushed}
 use Rattle.h26x_access_units.specs.Numbers.{bears_nothing, numbers_closed, numbers_carrying, after_last, after_missing, first_ended, without_first_ended}
-use Rattle.h26x_access_units.specs.JitterBuffer.{JitterState, reach, is_far, is_ahead, is_full, is_pressed, awaited_number, awaited, due_packet, with_packet, without_due, waits_for_none, has_none_due}
+use Rattle.h26x_access_units.specs.JitterBuffer.{JitterState, reach, is_far, is_ahead, is_full, is_pressed, awaited_number, awaited, due_packet, with_packet, without_due}
 use Rattle.h26x_access_units.specs.ReceivedAccessUnit.{ReceivedAccessUnitValue, received_unit, decoder_with, whole_with}
-use Rattle.h26x_access_units.specs.Reception.{Reception, reception, assembly_after, is_behind_missing, is_in_reach, shown_of, ends_before, is_one_taken, begins_still, believed, counts_answered, after_due, is_repeat, is_too_far, way_of, answer_on, reception_answer, after_reception, has_no_unit, has_bare, has_unit, bare_passed, first_passed, first_passed_of, without_bare, without_bare_of, is_taken_at_once, is_idle, after_finish, ended_if_anew, ended_if_over, unit_given_of, unit_given, without_given_of, without_given, IsDueTaken, IsPushed, IsDrained, none, bare, more, behind, IsEndedBefore, ended_behind_missing, ended_by_content, ended_before, IsDueTakenOrNone, FollowsWhereDue, IsEndedOrFollows, IsStepOrNone, IsStep, ended_alone, taken_alone, ended_and_taken, IsStepInPart, IsNext}
+use Rattle.h26x_access_units.specs.Reception.{Reception, reception, assembly_after, is_behind_missing, is_in_reach, shown_of, ends_before, is_one_taken, begins_still, believed, counts_answered, after_due, is_repeat, is_too_far, way_of, answer_on, reception_answer, after_reception, has_no_unit, has_bare, has_unit, bare_passed, first_passed, first_passed_of, without_bare, without_bare_of, is_taken_at_once, has_nothing_left, after_finish, ended_if_anew, ended_if_over, unit_given_of, unit_given, without_given_of, without_given, IsDueTaken, IsPushed, IsDrained, none, bare, more, behind, IsEndedBefore, ended_behind_missing, ended_by_content, ended_before, IsDueTakenOrNone, FollowsWhereDue, IsEndedOrFollows, IsStepOrNone, IsStep, ended_alone, taken_alone, ended_and_taken, IsStepInPart, IsNext}
 
 -- where nothing is held nothing is ready
 none_ready : (window : ℕ) (due : Option ℕ) → first_ready {A = RtpBody} window due [] ≡ None
@@ -178,7 +178,7 @@ taken_later now later s t p small is it =
     record { packet = it.packet; answer = it.answer; due = straight_is_due later now s.waiting p small is ∙ same; follows = it.follows; answered = it.answered; room = it.room; stands = it.stands }
 
 -- what was taken first, and what was taken then
-drained_on : (now : ℕ) (s t u : Reception) → IsDrained now s t → IsDrained now t u → IsDrained now s u
+pub drained_on : (now : ℕ) (s t u : Reception) → IsDrained now s t → IsDrained now t u → IsDrained now s u
 drained_on now s t u first none = first
 drained_on now s t u first (bare before) = bare (drained_on now s t _ first before)
 drained_on now s t u first (more before ended last) = more (drained_on now s t _ first before) ended last
@@ -251,43 +251,46 @@ none_waits : (held : List (ℕ × RtpBody)) → (length held == 0) ≡ true → 
 none_waits [] is = refl
 none_waits (p ∷ held) is = absurd (let some : (length (p ∷ held) == 0) ≡ false = grind (arith, nat_tests) in let bad = rw some at is in cc)
 
--- nor is one due where none waits, or the first isn't
-none_is_due : (now : ℕ) (j : JitterState) → (waits_for_none j || has_none_due now j) ≡ true → (due_packet now j ≡ None) × (j.is_over ≡ false)
-none_is_due now j = by (length j.buffer.held == 0) j.is_over (due_packet now j) (λ is. none_due now j (none_waits j.buffer.held is))
-  where
-    by : (empty over : Bool) (due : Option (ℕ × RtpBody)) → (empty ≡ true → due ≡ None) → ((empty && not over) || (not over && not (is_some due))) ≡ true → (due ≡ None) × (over ≡ false)
-    by true false due unheld e = (unheld refl, refl)
-    by false false None unheld e = (refl, refl)
-    by false false (Some p) unheld e = absurd (let bad = e in cc)
-    by true true due unheld e = absurd (let bad = e in cc)
-    by false true due unheld e = absurd (let bad = e in cc)
+-- so none is due where none waits
+pub none_is_due : (now : ℕ) (j : JitterState) → (length j.buffer.held == 0) ≡ true → is_some (due_packet now j) ≡ false
+none_is_due now j is = ap is_some (none_due now j (none_waits j.buffer.held is))
 
--- what is known where there is nothing to take and nothing to give out
-idle_parts : (now : ℕ) (s : Reception) → is_idle now s ≡ true → (s.assembler.ended ≡ []) × (s.is_anew ≡ false) × (due_packet now s.waiting ≡ None) × (s.waiting.is_over ≡ false)
-idle_parts now s is =
-    let at = by (has_no_unit s.assembler.ended) s.is_anew (waits_for_none s.waiting || has_none_due now s.waiting) is in
-    let due = none_is_due now s.waiting at.2 in
-    (none_of_units s.assembler.ended at.0, at.1, due.0, due.1)
+-- what is known where nothing is left
+nothing_parts : (s : Reception) → has_nothing_left s ≡ true → (s.assembler.ended ≡ []) × (s.is_anew ≡ false) × (s.waiting.is_over ≡ false)
+nothing_parts s is =
+    let at = by (has_no_unit s.assembler.ended) s.is_anew s.waiting.is_over is in
+    (none_of_units s.assembler.ended at.0, at.1, at.2)
   where
-    by : (a b c : Bool) → (a && (not b && c)) ≡ true → (a ≡ true) × (b ≡ false) × (c ≡ true)
-    by true false true e = (refl, refl, refl)
-    by true false false e = absurd (let bad = e in cc)
+    by : (a b c : Bool) → (a && (not b && not c)) ≡ true → (a ≡ true) × (b ≡ false) × (c ≡ false)
+    by true false false e = (refl, refl, refl)
+    by true false true e = absurd (let bad = e in cc)
     by true true c e = absurd (let bad = e in cc)
     by false b c e = absurd (let bad = e in cc)
 
--- then none is given out, and all stays
-pub idle_next : (now : ℕ) (s : Reception) → is_idle now s ≡ true → IsNext now s s None
-idle_next now s is =
-    let at = idle_parts now s is in
-    let over : ended_if_over s ≡ s = not_over s at.3 in
+pub nothing_ended : (s : Reception) → has_nothing_left s ≡ true → s.assembler.ended ≡ []
+nothing_ended s is = (nothing_parts s is).0
+
+-- then nothing is done before packets are taken
+pub nothing_first : (s : Reception) → has_nothing_left s ≡ true → ended_if_anew (without_bare s) ≡ s
+nothing_first s is = let at = nothing_parts s is in ap ended_if_anew (none_bare s at.0) ∙ not_anew s at.1
+
+-- then, where no packet is due, none is given out, and all stays
+pub idle_next : (now : ℕ) (s : Reception) → has_nothing_left s ≡ true → is_some (due_packet now s.waiting) ≡ false → IsNext now s s None
+idle_next now s is none_due =
+    let at = nothing_parts s is in
+    let over : ended_if_over s ≡ s = not_over s at.2 in
     let whole : without_bare (ended_if_over s) ≡ s = ap without_bare over ∙ ap (without_bare_of s) at.0 in
     record {
       drained = s;
-      taken = subst (λ (r : Reception). IsDrained now r s) (sym (ap ended_if_anew (none_bare s at.0) ∙ not_anew s at.1)) none;
-      until = λ _. at.2;
+      taken = subst (λ (r : Reception). IsDrained now r s) (sym (nothing_first s is)) none;
+      until = λ _. none_some (due_packet now s.waiting) none_due;
       unit_is = sym (ap unit_given whole ∙ ap (unit_given_of s) at.0);
       stands = sym (ap without_given whole ∙ ap (without_given_of s) at.0);
     }
+  where
+    none_some : (due : Option (ℕ × RtpBody)) → is_some due ≡ false → due ≡ None
+    none_some None e = refl
+    none_some (Some p) e = absurd (let bad = e in cc)
 
 -- before any was taken
 pub none_more : (now : ℕ) (s : Reception) → IsDrained now s s
@@ -298,6 +301,11 @@ pub one_step : (now : ℕ) (s t u : Reception) → IsDrained now s t → t.assem
 one_step now s t u before empty (ended_alone it has) = behind before empty it
 one_step now s t u before empty (taken_alone it) = more before empty it
 one_step now s t u before empty (ended_and_taken it none_left taken) = more (behind before empty it) none_left taken
+
+-- so of a step from where nothing is left
+pub stepped : (now : ℕ) (s t : Reception) (took : Bool) → has_nothing_left s ≡ true → IsStepOrNone now s took t → IsDrained now s t
+stepped now s t true is it = one_step now s s t none (nothing_ended s is) it
+stepped now s t false is it = subst (IsDrained now s) (sym it.1) none
 
 -- and where memory lacked
 pub step_in_part : (now : ℕ) (s t u : Reception) → IsDrained now s t → t.assembler.ended ≡ [] → IsStepInPart now t u → IsDrained now s u

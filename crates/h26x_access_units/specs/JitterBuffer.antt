@@ -127,10 +127,6 @@ is_near window other number =
     nat_le (distance_ahead other number) (reach window)
     || nat_le (distance_ahead number other) (reach window)
 
--- whether no packet waits, and the stream hasn't ended
-abbrev pub waits_for_none : JitterState → Bool
-waits_for_none j = (length j.buffer.held == 0) && not j.is_over
-
 -- a packet more waits, which came at this tick
 abbrev pub with_packet : ℕ → JitterState → ℕ × RtpBody → JitterState
 with_packet now j p = record j {
@@ -189,10 +185,6 @@ awaited j = awaited_number j.has_begun j.buffer.due j.buffer.held
 -- expected next, or where the window has passed
 abbrev pub due_packet : ℕ → JitterState → Option (ℕ × RtpBody)
 due_packet now j = if is_pressed now j then slice_get j.buffer.held 0 else next_packet j.buffer
-
--- whether no packet is due, and the stream hasn't ended
-abbrev pub has_none_due : ℕ → JitterState → Bool
-has_none_due now j = not j.is_over && not (is_some (due_packet now j))
 
 -- arrivals without that of the first of packets
 abbrev pub without_arrival_of : List (ℕ × RtpBody) → List Arrival → List Arrival

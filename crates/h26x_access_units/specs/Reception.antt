@@ -24,7 +24,7 @@ use Rattle.h26x_access_units.specs.declared.way.Way.TheVariants as ways
 use Rattle.h26x_access_units.specs.declared.pushed.Pushed.{Pushed}
 use Rattle.h26x_access_units.specs.declared.pushed.Pushed.TheVariants as pushes
 use Rattle.h26x_access_units.specs.Counts.{no_counts, counted_push, counted_dropped, counted_due, counted_no_unit, counted_framing, counted_unit, counted_reason}
-use Rattle.h26x_access_units.specs.JitterBuffer.{JitterState, may_tell_first, begun_jitter, longest_wait, awaited, is_far, is_ahead, is_near, is_full, jitter_answer, after_jitter, with_packet, with_stray, with_config, due_packet, without_due, fresh_jitter, with_held_limit, waits_for_none, has_none_due}
+use Rattle.h26x_access_units.specs.JitterBuffer.{JitterState, may_tell_first, begun_jitter, longest_wait, awaited, is_far, is_ahead, is_near, is_full, jitter_answer, after_jitter, with_packet, with_stray, with_config, due_packet, without_due, fresh_jitter, with_held_limit}
 use Rattle.h26x_access_units.specs.Numbers.{fresh_numbers, missing_told, is_timestamp, after_gap, after_missing, begun_numbers_at, bears_nothing, numbers_after, numbers_closed, numbers_still, numbers_carrying, after_last, first_ended, without_first_ended}
 use Rattle.h26x_access_units.specs.ReceivedAccessUnit.{ReceivedAccessUnitValue, received_unit, decoder_with, whole_with, received_unit_value}
 use Rattle.std.specs.Option.{option_map, unwrap_or}
@@ -552,11 +552,11 @@ abbrev pub ended_if_over : Reception → Reception
 ended_if_over s =
     if has_no_unit s.assembler.ended && s.waiting.is_over then after_finish s else s
 
--- whether there is nothing to take and nothing to give out: no access unit that ended is left, the
--- stream hasn't begun anew nor ended, and no packet waits or is due
-abbrev pub is_idle : ℕ → Reception → Bool
-is_idle now s = has_no_unit s.assembler.ended
-    && (not s.is_anew && (waits_for_none s.waiting || has_none_due now s.waiting))
+-- whether nothing is left that ended or has to end: no access unit ended that wasn't given out, and the
+-- stream hasn't begun anew nor ended
+abbrev pub has_nothing_left : Reception → Bool
+has_nothing_left s =
+    has_no_unit s.assembler.ended && (not s.is_anew && not s.waiting.is_over)
 
 -- the first access unit that ended
 abbrev pub unit_given_of : Reception → List AccessUnitValue → Option ReceivedAccessUnitValue

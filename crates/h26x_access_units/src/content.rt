@@ -3,6 +3,7 @@
 ghost use Rattle.std.specs.Prelude.{◌≡◌, ◌≤◌, false, length, get_or, IfSome};
 ghost use Rattle.std.specs.Option.{option_map};
 ghost use Rattle.h26x_cut.specs.Cutting.{behind_first_code};
+ghost use Rattle.h26x_access_units.specs.Framing.{is_slice_kind};
 ghost use Rattle.h26x_access_units.specs.Content.{joined_sets, h264_kind, h265_kind, h266_kind, content_kind, with_kind, slice_head, telling_frames, with_frames, content_with_unit, slice_content, told_head, first_unit, content_of};
 
 use crate::frame_number::{Numbering, sps_numbering};
@@ -225,6 +226,27 @@ pub(crate) fn content_kind(extra: CodecExtra, unit: &[u8]) -> UnitKind
         CodecExtra::H264(_) => h264_kind(unit),
         CodecExtra::H265(_) => h265_kind(unit),
         CodecExtra::H266(_) => h266_kind(unit),
+    }
+}
+
+/// Whether a unit that begins with these bytes is a slice, by what is told of its codec: what
+/// [`content_kind`] tells, with less work.
+#[inline(always)]
+pub(crate) fn is_slice(extra: CodecExtra, first: [u8; 3]) -> bool
+    ensures { result ≡ is_slice_kind (content_kind extra first) }
+{
+    let [header, second, _] = first;
+    match extra {
+        CodecExtra::None => false,
+        CodecExtra::H264(_) => matches!(header & 0x1f, 1 | 2 | 5),
+        CodecExtra::H265(_) => {
+            let is_base = header & 1 == 0 && second >> 3 == 0 && second & 7 != 0;
+            is_base && matches!(header >> 1 & 0x3f, 0..=9 | 16..=21)
+        }
+        CodecExtra::H266(_) => {
+            let is_base = header & 0x3f == 0 && second & 7 != 0;
+            is_base && matches!(second >> 3, 0..=3 | 7..=10)
+        }
     }
 }
 

@@ -1,12 +1,13 @@
 //! What becomes of a packet that is due: whether an access unit ends before it, and what is noted.
 
-ghost use Rattle.std.specs.Prelude.{◌≡◌, ℕ, if◌then◌else◌, Option, List, true, false, not, ◌&&◌, Ok, Err, IfOk, OnOk, OnErr};
+ghost use Rattle.std.specs.Prelude.{◌≡◌, ℕ, Bool, if◌then◌else◌, Option, List, true, false, not, ◌&&◌, Ok, Err, IfOk, OnOk, OnErr};
 ghost use Rattle.h26x_core.specs.Sequence.{missing_count};
 ghost use Rattle.h26x_receiver.specs.Sequenced.{IfTaken, skip_answer};
 ghost use Rattle.h26x_access_units.specs.Counts.{counted_due, counted_no_unit, counted_framing};
 ghost use Rattle.h26x_access_units.specs.Framing.{ends_by_content};
 ghost use Rattle.h26x_assembler.specs.Assembler.{assembly_at, gives_text_up};
 ghost use Rattle.h26x_assembler.specs.AccessUnit.{is_text_given_up};
+ghost use Rattle.h26x_access_units.specs.declared.framing.Framing.{Framing};
 ghost use Rattle.h26x_assembler.specs.declared.access_unit.AccessUnit.{AccessUnit};
 ghost use Rattle.h26x_access_units.specs.Numbers.{bears_nothing, missing_told, after_gap, numbers_after, numbers_closed, numbers_still};
 ghost use Rattle.h26x_access_units.specs.Reception.{begun_for, expected_for, ends_with, after_no_unit, is_behind_missing, is_in_reach, shown_of, ends_before, framing_of, believed, is_one_taken, begins_still, framing_answered, numbers_answered, counts_answered, assembly_after, lacks_memory, marker_forgotten, IsAnswerTo};
@@ -224,6 +225,56 @@ fn framing_of<D: RunDepacketizer>(
     framing.with(is_open, true, shown_by(depacketizer, packet.payload))
 }
 
+/// Passes over a packet that the assembler refused, and notes it. The answer is why it is refused: for
+/// want of memory all stays as it was, also where an access unit was to end with it.
+#[cold]
+#[inline(never)]
+pub(crate) fn pass_refused<D: RunDepacketizer>(
+    assembler: &mut AccessUnitAssembler<D>,
+    ended: &mut Vec<AccessUnit>,
+    numbers: &mut NumbersSoFar,
+    counts: &mut Counts,
+    packet: &RtpPacket<'_>,
+    error: PacketError,
+) -> PacketError
+    requires { IsAnswerTo assembler.old.packets.run_limit
+        (assembly_at D.state assembler.old ended.old.items) packet.now (Err error) }
+    ensures answer { IsAnswerTo assembler.old.packets.run_limit
+        (assembly_at D.state assembler.old ended.old.items) packet.now (Err result) }
+    ensures after { lacks_memory (Err result) ≡ false →
+        assembly_at D.state assembler.new ended.new.items
+        ≡ marker_forgotten (assembly_after assembler.old.packets.run_limit assembler.old.unit_limit
+        (assembly_at D.state assembler.old ended.old.items) packet.now (Err result)) }
+    ensures numbers { (at : Framing) → lacks_memory (Err result) ≡ false →
+        numbers.new ≡ numbers_answered (assembly_at D.state assembler.old ended.old.items) numbers.old
+        at packet.now (Err result) }
+    ensures counts { (at : Framing) (marker text : Bool) → lacks_memory (Err result) ≡ false →
+        counts.new ≡ counts_answered (assembly_at D.state assembler.old ended.old.items) counts.old at
+        packet.now marker text (Err result) }
+    ensures limit { assembler.new.packets.run_limit ≡ assembler.old.packets.run_limit }
+    ensures unit_limit { assembler.new.unit_limit ≡ assembler.old.unit_limit }
+    ensures kept { lacks_memory (Err result) ≡ true → assembly_at D.state assembler.new ended.new.items
+        ≡ assembly_at D.state assembler.old ended.old.items }
+    ensures kept_numbers { lacks_memory (Err result) ≡ true → numbers.new ≡ numbers.old }
+    ensures kept_counts { lacks_memory (Err result) ≡ true → counts.new ≡ counts.old }
+{
+    if matches!(error, PacketError::OutOfMemory) {
+        return error;
+    }
+    let extra = assembler.packets.depacketizer.extra(false);
+    if bears_no_unit(extra, error, packet.payload) {
+        return match pass_no_unit(assembler, ended, numbers, counts, packet) {
+            Ok(()) => error,
+            Err(lack) => lack,
+        };
+    }
+    let missing = missing_with(assembler.pass_over(packet.sequence));
+    assembler.forget_marker();
+    numbers.skip(missing);
+    counts.refuse(missing);
+    error
+}
+
 /// Gives it a packet that is due, passes over one that it refuses, and notes what became of it: `at` is
 /// what is known with it of where access units end, and it has its marker where that is believed.
 /// Without memory all stays as it was.
@@ -269,17 +320,8 @@ fn take_noted<D: RunDepacketizer>(
             );
             Ok(received)
         }
-        Err(PacketError::OutOfMemory) => Err(PacketError::OutOfMemory),
         Err(error) => {
-            let extra = assembler.packets.depacketizer.extra(false);
-            if bears_no_unit(extra, error, packet.payload) {
-                pass_no_unit(assembler, ended, numbers, counts, packet)?;
-                return Err(error);
-            }
-            let missing = missing_with(assembler.pass_over(packet.sequence));
-            assembler.forget_marker();
-            numbers.skip(missing);
-            counts.refuse(missing);
+            let error = pass_refused(assembler, ended, numbers, counts, packet, error);
             Err(error)
         }
     }

@@ -3,7 +3,7 @@
 ghost use Rattle.std.specs.Prelude.{◌≡◌, ℕ, Bool, List, false};
 ghost use Rattle.h26x_access_units.specs.Framing.{is_slice_kind, begins_behind_slice, goes_on_with, shown_by, fresh_framing, trusts_markers, ends_by_content, framing_with, believes, framing_marked, is_end_unit, bears_no_unit};
 
-use crate::content::{UnitKind, byte_at, content_kind};
+use crate::content::{UnitKind, byte_at, content_kind, is_slice};
 use h26x_core::{CodecExtra, PacketError};
 use h26x_depacketizer::{RunDepacketizer, UnitTest};
 
@@ -41,9 +41,9 @@ impl UnitTest for IsSlice {
 
     ghost holds = { λ it first. is_slice_kind (content_kind it.extra first) };
 
-    #[inline]
+    #[inline(always)]
     fn holds(&self, first: [u8; 3]) -> bool {
-        matches!(content_kind(self.extra, &first), UnitKind::Slice(_))
+        is_slice(self.extra, first)
     }
 }
 

@@ -1,6 +1,6 @@
 //! Packets that wait for those before them, by a window, by time and by bytes.
 
-ghost use Rattle.std.specs.Prelude.{◌≡◌, ℕ, ◌+◌, ◌^◌, ◌<◌, ◌≤◌, ◌==◌, ◌++◌, true, false, not, if◌then◌else◌, IfOk, IfErr, OnOk, OnErr, MatchOption, length, slice_get};
+ghost use Rattle.std.specs.Prelude.{◌≡◌, ℕ, ◌+◌, ◌^◌, ◌<◌, ◌≤◌, ◌==◌, ◌++◌, true, false, not, if◌then◌else◌, IfOk, IfErr, OnOk, OnErr, MatchOption, is_some, length, slice_get};
 ghost use Rattle.std.specs.Option.{option_map};
 ghost use Rattle.h26x_reorder.specs.Rtp.{RtpBody};
 ghost use Rattle.h26x_reorder.specs.ReorderBuffer.{numbered_packet, push_answer, are_beyond, goes_straight};
@@ -8,7 +8,7 @@ ghost use Rattle.h26x_reorder.specs.declared.pushed.Pushed.TheVariants as buffer
 ghost use Rattle.h26x_access_units.specs.Arrival.{deadline_of, has_waited};
 ghost use Rattle.h26x_access_units.specs.Pushed.{IsNotPushedReason, not_pushed_reason};
 ghost use Rattle.h26x_access_units.specs.Missing.{numbers_from, missing_numbers, AreExactlyMissing};
-ghost use Rattle.h26x_access_units.specs.JitterBuffer.{with_packet, far_back, reach, is_far, is_ahead, is_near, with_config, with_held_limit, fresh_jitter, held_bytes, is_past_limit, is_full, is_pressed, jitter_answer, after_jitter, has_room_for, with_two, with_stray, longest_wait, awaited, may_tell_first, begun_jitter, due_packet, without_due, waits_for_none, has_none_due};
+ghost use Rattle.h26x_access_units.specs.JitterBuffer.{with_packet, far_back, reach, is_far, is_ahead, is_near, with_config, with_held_limit, fresh_jitter, held_bytes, is_past_limit, is_full, is_pressed, jitter_answer, after_jitter, has_room_for, with_two, with_stray, longest_wait, awaited, may_tell_first, begun_jitter, due_packet, without_due};
 
 use crate::arrival::{Arrival, from_at, let_go};
 use crate::config::AccessUnitConfig;
@@ -429,11 +429,21 @@ impl JitterBuffer {
     pub fn first_due(&self, now: u32) -> Option<&HeldPacket>
         ensures { option_map (λ p. numbered_packet p.now) result ≡ due_packet now self.now }
     {
-        if self.buffer.is_ready() || self.is_pressed(now) {
-            self.buffer.first()
+        let first = self.buffer.first()?;
+        if self.buffer.may_go(first.sequence) || self.is_pressed(now) {
+            Some(first)
         } else {
             None
         }
+    }
+
+    /// The packet that is due at some tick, where one is known to be: the first.
+    #[inline(always)]
+    pub(crate) fn known_due(&self) -> Option<&HeldPacket>
+        ensures { (now : ℕ) → is_some (due_packet now self.now) ≡ true →
+            option_map (λ p. numbered_packet p.now) result ≡ due_packet now self.now }
+    {
+        self.buffer.first()
     }
 
     /// The first packet, due or not.
@@ -538,20 +548,12 @@ impl JitterBuffer {
         true
     }
 
-    /// Whether no packet waits, and the stream hasn't ended.
+    /// Whether a packet is due at this tick.
     #[inline]
-    pub(crate) fn waits_for_none(&self) -> bool
-        ensures { result ≡ waits_for_none self.now }
+    pub(crate) fn has_due(&self, now: u32) -> bool
+        ensures { result ≡ is_some (due_packet now self.now) }
     {
-        self.is_empty() && !self.is_over
-    }
-
-    /// Whether no packet is due at this tick, and the stream hasn't ended.
-    #[inline]
-    pub(crate) fn has_none_due(&self, now: u32) -> bool
-        ensures { result ≡ has_none_due now self.now }
-    {
-        !self.is_over && self.first_due(now).is_none()
+        !self.is_empty() && self.first_due(now).is_some()
     }
 
     /// Whether the stream has ended.

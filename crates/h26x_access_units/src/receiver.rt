@@ -1,17 +1,17 @@
 //! A receiver that takes packets as they come and gives out access units.
 
-ghost use Rattle.std.specs.Prelude.{◌≡◌, ◌^◌, ◌<◌, ◌≤◌, Option, true, false, not, ◌&&◌, [], None, Some, Ok, Err, IfOk, OnOk, OnErr, IfErr, length};
+ghost use Rattle.std.specs.Prelude.{◌≡◌, ◌^◌, ◌<◌, ◌≤◌, Option, true, false, not, ◌&&◌, [], None, Some, Ok, Err, IfOk, OnOk, OnErr, IfErr, is_some, length};
 ghost use Rattle.std.specs.Option.{option_map, unwrap_or};
 ghost use Rattle.h26x_reorder.specs.Rtp.{rtp_body};
 ghost use Rattle.h26x_reorder.specs.ReorderBuffer.{numbered_packet, push_answer};
 ghost use Rattle.h26x_reorder.specs.declared.pushed.Pushed.TheVariants as buffered;
 ghost use Rattle.h26x_access_units.specs.Pushed.{IsNotPushedReason, is_kept, not_pushed_reason};
-ghost use Rattle.h26x_access_units.specs.JitterBuffer.{awaited, may_tell_first, without_due};
+ghost use Rattle.h26x_access_units.specs.JitterBuffer.{awaited, due_packet, may_tell_first, without_due};
 ghost use Rattle.h26x_access_units.specs.Passed.{passed_with};
 ghost use Rattle.h26x_assembler.specs.AccessUnit.{units_so_far_value};
 ghost use Rattle.h26x_assembler.specs.Assembler.{assembly_at};
 ghost use Rattle.h26x_access_units.specs.ReceivedAccessUnit.{received_unit_value};
-ghost use Rattle.h26x_access_units.specs.Reception.{fresh_reception, open_units, begun_reception, is_behind_missing, ends_before, reception_answer, has_no_unit, has_bare, has_unit, first_passed, without_bare, ended_if_anew, ended_if_over, restarted, unit_given, without_given, is_taken_at_once, is_idle, IsDrained, after_reception, way_of, IsPushAnswer, IsPutAside, refused_reception, IsTakenAsDue, IsDueTakenOrNone, FollowsWhereDue, IsEndedOrFollows, IsStepOrNone, IsStepInPart, NoneIsDueUnlessEnded, IsPushedIfOk, ended_reception, IsDrainedInPart, GivesNext, nack_numbers, AreExactNacks, next_deadline, settings, with_settings};
+ghost use Rattle.h26x_access_units.specs.Reception.{fresh_reception, open_units, begun_reception, is_behind_missing, ends_before, reception_answer, has_no_unit, has_bare, has_unit, first_passed, without_bare, ended_if_anew, ended_if_over, restarted, unit_given, without_given, is_taken_at_once, has_nothing_left, IsDrained, after_reception, way_of, IsPushAnswer, IsPutAside, refused_reception, IsTakenAsDue, IsDueTakenOrNone, FollowsWhereDue, IsEndedOrFollows, IsStepOrNone, IsStepInPart, NoneIsDueUnlessEnded, IsPushedIfOk, ended_reception, IsDrainedInPart, GivesNext, nack_numbers, AreExactNacks, next_deadline, settings, with_settings};
 ghost use Rattle.h26x_access_units.specs.Limits.{StaysWithinLimits};
 
 use crate::anew::anew_with;
@@ -558,7 +558,25 @@ impl<D: RunDepacketizer> AccessUnitReceiver<D> {
         ensures kept { let r = ⟦<Self as Receives>⟧.reception in
             OnErr result (IsStepInPart now (r self.old) (r self.new)) }
     {
-        let packet = match self.waiting.first_due(now) {
+        if self.waiting.first_due(now).is_none() {
+            return Ok(false);
+        }
+        self.step_due(now)
+    }
+
+    /// So where a packet is due.
+    #[inline(never)]
+    fn step_due(&mut self, now: u32) -> Result<bool, PacketError>
+        requires ended { let r = ⟦<Self as Receives>⟧.reception in (r self.old).assembler.ended ≡ [] }
+        requires due { let r = ⟦<Self as Receives>⟧.reception in
+            is_some (due_packet now (r self.old).waiting) ≡ true }
+        ensures step { let r = ⟦<Self as Receives>⟧.reception in
+            IfOk result (λ took. IsStepOrNone now (r self.old) took (r self.new)) }
+        ensures memory { OnErr result (result ≡ Err PacketError.OutOfMemory) }
+        ensures kept { let r = ⟦<Self as Receives>⟧.reception in
+            OnErr result (IsStepInPart now (r self.old) (r self.new)) }
+    {
+        let packet = match self.waiting.known_due() {
             Some(held) => held.packet(),
             None => return Ok(false),
         };
@@ -725,20 +743,21 @@ impl<D: RunDepacketizer> AccessUnitReceiver<D> {
         if self.has_unit() {
             return Ok(self.give());
         }
-        if self.is_idle(now) {
+        if !self.has_nothing_left() {
+            return self.next_left(now);
+        }
+        if !self.waiting.has_due(now) {
             return Ok(None);
         }
         self.next_due(now)
     }
 
-    /// Whether there is nothing to take at this tick, or to give out: of packets that wait only the
-    /// first is looked at.
+    /// Whether nothing is left that ended or has to end.
     #[inline]
-    fn is_idle(&self, now: u32) -> bool
-        ensures { let r = ⟦<Self as Receives>⟧.reception in result ≡ is_idle now (r self.now) }
+    fn has_nothing_left(&self) -> bool
+        ensures { let r = ⟦<Self as Receives>⟧.reception in result ≡ has_nothing_left (r self.now) }
     {
-        let none_is_left = !self.has_ended() && !self.is_anew;
-        none_is_left && (self.waiting.waits_for_none() || self.waiting.has_none_due(now))
+        !self.has_ended() && !self.is_anew && !self.waiting.is_over()
     }
 
     /// Whether the first access unit that ended has bytes, so that it is the next.
@@ -753,9 +772,30 @@ impl<D: RunDepacketizer> AccessUnitReceiver<D> {
         }
     }
 
-    /// What `next` does.
+    /// What `next` does where a packet is due and nothing else is left. It isn't asked for again.
     #[inline(never)]
     fn next_due(&mut self, now: u32) -> Result<Option<ReceivedAccessUnit>, PacketError>
+        requires left { let r = ⟦<Self as Receives>⟧.reception in has_nothing_left (r self.old) ≡ true }
+        requires due { let r = ⟦<Self as Receives>⟧.reception in
+            is_some (due_packet now (r self.old).waiting) ≡ true }
+        ensures next { let r = ⟦<Self as Receives>⟧.reception in
+            GivesNext now (r self.old) result (r self.new) }
+        ensures memory { OnErr result (result ≡ Err PacketError.OutOfMemory) }
+        ensures kept { let r = ⟦<Self as Receives>⟧.reception in
+            OnErr result (IsDrainedInPart now (r self.old) (r self.new)) }
+        ensures bounded { let r = ⟦<Self as Receives>⟧.reception in
+            StaysWithinLimits 0 (r self.old) (r self.new) }
+    {
+        let _ = self.step_due(now)?;
+        self.drain(now)?;
+        self.end_if_over()?;
+        let _ = self.drop_bare();
+        Ok(self.give())
+    }
+
+    /// What `next` does.
+    #[inline(never)]
+    fn next_left(&mut self, now: u32) -> Result<Option<ReceivedAccessUnit>, PacketError>
         ensures next { let r = ⟦<Self as Receives>⟧.reception in
             GivesNext now (r self.old) result (r self.new) }
         ensures memory { OnErr result (result ≡ Err PacketError.OutOfMemory) }

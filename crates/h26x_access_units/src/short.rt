@@ -9,7 +9,7 @@ ghost use Rattle.h26x_access_units.specs.Reception.{begun_for, framing_of, belie
 ghost use Rattle.h26x_access_units.specs.Short.{goes_on, is_sole};
 
 use crate::counts::Counts;
-use crate::due::{note_in_order, note_received, take_begun};
+use crate::due::{note_in_order, note_received, pass_refused, take_begun};
 use crate::framing::{Framing, Shown, bears_slice};
 use crate::numbers::{NumbersSoFar, is_timestamp};
 use h26x_assembler::{AccessUnit, AccessUnitAssembler};
@@ -101,8 +101,10 @@ fn take_on<D: RunDepacketizer>(
             );
             Ok(received)
         }
-        Err(PacketError::OutOfMemory) => Err(PacketError::OutOfMemory),
-        Err(_) => take_begun(assembler, ended, framing, numbers, counts, packet),
+        Err(error) => {
+            let error = pass_refused(assembler, ended, numbers, counts, packet, error);
+            Err(error)
+        }
     }
 }
 
@@ -186,8 +188,10 @@ fn take_sole<D: RunDepacketizer>(
             );
             Ok(received)
         }
-        Err(PacketError::OutOfMemory) => Err(PacketError::OutOfMemory),
-        Err(_) => take_begun(assembler, ended, framing, numbers, counts, packet),
+        Err(error) => {
+            let error = pass_refused(assembler, ended, numbers, counts, packet, error);
+            Err(error)
+        }
     }
 }
 

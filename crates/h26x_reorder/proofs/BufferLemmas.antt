@@ -1,5 +1,5 @@
 -- What a buffer holds stays in order.
-use Rattle.std.proofs.Common.{◌≡◌, ℕ, ◌+◌, ◌-◌, ◌<◌, ◌≤◌, Bool, true, false, cond, List, [], ◌∷◌, ◌++◌, map, length, get_or, drop, Option, Some, None, refl, sym, ap, ◌∙◌, subst, append_assoc, arith}
+use Rattle.std.proofs.Common.{◌≡◌, ℕ, ◌+◌, ◌<◌, ◌≤◌, Bool, true, false, cond, List, [], ◌∷◌, ◌++◌, map, length, get_or, drop, Option, Some, None, refl, sym, ap, ◌∙◌, subst, append_assoc, arith}
 use Rattle.std.specs.Prelude.{◌==◌, ◌||◌, nat_lt, nat_le, zero, suc, is_some}
 use Rattle.std.specs.Option.{unwrap_or}
 use Rattle.std.specs.List.{insert}
@@ -102,12 +102,12 @@ rest_in_order (Some due) p held (small, order) =
     (omega arith, later_order due (next_sequence_number p.0) 0 held small (omega arith) (subst (λ (n : ℕ). AreHeldInOrder due n held) from order.3))
 
 -- the last of packets has the last number
-last_is : (q : ℕ × RtpBody) (held : List (ℕ × RtpBody)) (d : ℕ × RtpBody) → last_number q.0 held ≡ (get_or (q ∷ held) (length held) d).0
+pub last_is : (q : ℕ × RtpBody) (held : List (ℕ × RtpBody)) (d : ℕ × RtpBody) → last_number q.0 held ≡ (get_or (q ∷ held) (length held) d).0
 last_is q [] d = refl
 last_is q (p ∷ held) d = last_is p held d
 
 -- the last is no nearer than the first
-last_behind : (due from : ℕ) (q : ℕ × RtpBody) (held : List (ℕ × RtpBody)) → AreHeldInOrder due from ((q ∷ held)) →
+pub last_behind : (due from : ℕ) (q : ℕ × RtpBody) (held : List (ℕ × RtpBody)) → AreHeldInOrder due from ((q ∷ held)) →
     (distance_of due q ≤ distance_ahead due (last_number q.0 held)) × (distance_ahead due (last_number q.0 held) < 32768)
 last_behind due from q [] order = (omega arith, order.2)
 last_behind due from q (p ∷ held) order =
@@ -115,28 +115,10 @@ last_behind due from q (p ∷ held) order =
     let step : distance_of due q + 1 ≤ distance_of due p = order.3.1 in
     (omega (arith, rest.0), rest.1)
 
--- whether the first may go, by the first and the last
-pub record AreEnds (window due : ℕ) (held : List (ℕ × RtpBody)) (first last : ℕ × RtpBody) : Type 0 where
-  pub rise : distance_of due first ≤ distance_of due last
-  pub ready : is_some (first_ready window (Some due) held) ≡ may_go window last.0 due first.0
-
-some_if : (b : Bool) (p : ℕ × RtpBody) → is_some (cond b (Some p) None) ≡ b
+-- a packet is some where it is asked for
+pub some_if : (b : Bool) (p : ℕ × RtpBody) → is_some (cond b (Some p) None) ≡ b
 some_if true p = refl
 some_if false p = refl
-
-pub ends : (window due : ℕ) (held : List (ℕ × RtpBody)) (first last : ℕ × RtpBody) → 0 < length held → first ≡ get_or held 0 first → last ≡ get_or held (length held - 1) last →
-    AreHeldInOrder due 0 held → AreEnds window due held first last
-ends window due [] first last some f l order = absurd (omega arith)
-ends window due (q ∷ held) first last some f l order =
-    let there : last ≡ get_or (q ∷ held) (length held) last = l ∙ ap (λ (n : ℕ). get_or (q ∷ held) n last) (omega arith) in
-    let number : last_number q.0 held ≡ last.0 = last_is q held last ∙ ap (λ (p : ℕ × RtpBody). p.0) (sym there) in
-    let same : q.0 ≡ first.0 = ap (λ (p : ℕ × RtpBody). p.0) (sym f) in
-    let up = last_behind due 0 q held order in
-    record {
-      rise = subst (λ (n : ℕ). distance_of due first ≤ distance_ahead due n) number (subst (λ (n : ℕ). distance_ahead due n ≤ distance_ahead due (last_number q.0 held)) same up.0);
-      ready = some_if (may_go window (last_number q.0 held) due q.0) q
-          ∙ ap (λ (n : ℕ). may_go window n due q.0) number ∙ ap (λ (n : ℕ). may_go window last.0 due n) same;
-    }
 
 -- a packet that is not late is put to the others
 pub pushed_is : {A : Type 0} → (b : BufferState A) (p : ℕ × A) → distance_ahead (due_at b.window b.due p.0) p.0 < 32768 →

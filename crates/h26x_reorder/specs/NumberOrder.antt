@@ -3,7 +3,7 @@ use Rattle.std.specs.Prelude.{◌≡◌, ℕ, ◌<◌, ◌≤◌, ◌^◌, false
 use Rattle.std.specs.List.{insert}
 use Rattle.h26x_core.specs.Sequence.{is_late}
 use Rattle.h26x_reorder.specs.Rtp.{RtpBody}
-use Rattle.h26x_reorder.specs.ReorderBuffer.{BufferState, due_at, is_number_held, put_packet}
+use Rattle.h26x_reorder.specs.ReorderBuffer.{BufferState, IsBufferState, last_number, due_at, is_number_held, put_packet}
 
 -- No packet with this number is held, and one belongs at this place.
 pub record IsPlaceAmong (held : List (ℕ × RtpBody)) (due number place : ℕ) : Type 0 where
@@ -11,6 +11,11 @@ pub record IsPlaceAmong (held : List (ℕ × RtpBody)) (due number place : ℕ) 
   pub in_range : place ≤ length held
   pub put : (packet : RtpBody) → insert held place (number, packet)
       ≡ put_packet due (number, packet) held
+
+-- what is held of a buffer's packets, with the number of the last one, where there is one
+pub record IsNumberOrder (newest : ℕ) (b : BufferState RtpBody) : Type 0 where
+  pub buffer : IsBufferState b
+  pub last : last_number newest b.held ≡ newest
 
 -- what a search for a number answers: one with it is held; or none is, and where it belongs
 abbrev pub IsSearchResult : List (ℕ × RtpBody) → ℕ → ℕ → Result ℕ ℕ → Type 0

@@ -1,5 +1,5 @@
 -- A buffer of packets that came before earlier ones, by their sequence numbers (RFC 3550, 5.1; ours).
-use Rattle.std.specs.Prelude.{◌≡◌, ℕ, ◌+◌, ◌-◌, ◌%◌, ◌^◌, ◌<◌, ◌≤◌, ◌==◌, nat_lt, nat_le, Bool, ◌||◌, ◌&&◌, if◌then◌else◌, List, [], ◌∷◌, ◌++◌, length, map, Option, Some, None, slice_index_or, true, false}
+use Rattle.std.specs.Prelude.{◌≡◌, ℕ, ◌+◌, ◌-◌, ◌%◌, ◌^◌, ◌<◌, ◌≤◌, ◌==◌, nat_lt, nat_le, Bool, ◌||◌, ◌&&◌, if◌then◌else◌, List, [], ◌∷◌, ◌++◌, length, map, Option, Some, None, slice_index_or, false}
 use Rattle.std.specs.List.{list_any}
 use Rattle.h26x_core.specs.Sequence.{next_sequence_number, distance_ahead, distance_behind, is_expected, is_late}
 use Rattle.h26x_reorder.specs.Reordering.{in_order, IsReordered}
@@ -130,6 +130,11 @@ first_ready window due held = None
 -- so of a buffer
 abbrev pub next_packet : {A : Type 0} → BufferState A → Option (ℕ × A)
 next_packet b = first_ready b.window b.due b.held
+
+-- the number of the first packet, if there is one
+abbrev pub first_number : {A : Type 0} → List (ℕ × A) → Option ℕ
+first_number [] = None
+first_number (p ∷ held) = Some p.0
 
 -- a buffer without the first packet that it holds: the number behind it is due
 abbrev pub without_first_of : {A : Type 0} → ℕ → Option ℕ → List (ℕ × A) → BufferState A

@@ -1,9 +1,9 @@
 //! A buffer for packets that come before earlier ones.
 
-ghost use Rattle.std.specs.Prelude.{◌≡◌, ◌+◌, ◌^◌, ◌<◌, ◌≤◌, ◌==◌, if◌then◌else◌, true, false, ℕ, Ok, None, IfOk, IfErr, OnOk, OnErr, is_some, length, slice_get, slice_index_or};
+ghost use Rattle.std.specs.Prelude.{◌≡◌, ◌+◌, ◌^◌, ◌<◌, ◌≤◌, ◌==◌, if◌then◌else◌, true, false, ℕ, Ok, None, Some, IfOk, IfErr, OnOk, OnErr, is_some, length, slice_get, slice_index_or};
 ghost use Rattle.std.specs.Option.{option_map};
 ghost use Rattle.h26x_reorder.specs.Rtp.{RtpBody};
-ghost use Rattle.h26x_reorder.specs.ReorderBuffer.{BufferState, numbered_packet, fresh_buffer, begun_at, with_window, goes_straight, newest_of, is_beyond, are_beyond, push_answer, after_push, next_packet, without_first};
+ghost use Rattle.h26x_reorder.specs.ReorderBuffer.{BufferState, numbered_packet, fresh_buffer, begun_at, with_window, goes_straight, newest_of, is_beyond, are_beyond, push_answer, after_push, next_packet, without_first, first_number};
 ghost use Rattle.h26x_reorder.specs.ReorderBuffer as spec;
 
 use crate::order::NumberOrder;
@@ -247,6 +247,18 @@ impl ReorderBuffer {
         ensures few { result ≡ false → length self.now.held < self.now.window }
     {
         self.held.is_ready()
+    }
+
+    /// Whether the first of the packets held, which has this number, may go.
+    #[inline]
+    pub fn may_go(&self, first: u16) -> bool
+        requires { first_number self.now.held ≡ Some first }
+        ensures ready { result ≡ is_some (next_packet self.now) }
+
+        // Where none may go, fewer are held than the window has.
+        ensures few { result ≡ false → length self.now.held < self.now.window }
+    {
+        self.held.may_go(first)
     }
 
     /// Whether a packet with this number needn't be held: none is, and it is the one that is due. A

@@ -1,11 +1,11 @@
 //! Packets in the order of their sequence numbers, until they may go.
 
-ghost use Rattle.std.specs.Prelude.{◌≡◌, ◌+◌, ◌^◌, ◌<◌, ◌≤◌, ◌==◌, if◌then◌else◌, true, false, ℕ, IfOk, IfErr, OnOk, OnErr, None, is_some, length, map, slice_get, slice_index_or};
+ghost use Rattle.std.specs.Prelude.{◌≡◌, ◌+◌, ◌^◌, ◌<◌, ◌≤◌, ◌==◌, if◌then◌else◌, true, false, ℕ, IfOk, IfErr, OnOk, OnErr, None, Some, is_some, length, map, slice_get, slice_index_or};
 ghost use Rattle.std.specs.Option.{option_map};
 ghost use Rattle.h26x_core.specs.Sequence.{distance_ahead};
 ghost use Rattle.h26x_reorder.specs.Rtp.{RtpBody};
 ghost use Rattle.h26x_reorder.specs.NumberOrder.{IsPlaceOf, IsSearchResult};
-ghost use Rattle.h26x_reorder.specs.ReorderBuffer.{fresh_buffer, begun_at, with_window, goes_straight, newest_of, is_beyond, are_beyond, push_answer, after_push, next_packet, without_first, AreHeldInOrder};
+ghost use Rattle.h26x_reorder.specs.ReorderBuffer.{fresh_buffer, begun_at, with_window, goes_straight, newest_of, is_beyond, are_beyond, push_answer, after_push, next_packet, without_first, first_number, AreHeldInOrder};
 
 use crate::numbered::Numbered;
 use crate::parted::Parted;
@@ -24,18 +24,22 @@ pub(crate) struct NumberOrder<T: Numbered> {
     window: u16,
     due: Option<u16>,
     held: Parted<T>,
+    /// The number of the last packet, where there is one.
+    newest: u16,
 }
 
 impl<T: Numbered> Model for NumberOrder<T> {
     ghost use Rattle.std.specs.Prelude.{map};
     ghost use Rattle.h26x_reorder.specs.Rtp.{RtpBody};
-    ghost use Rattle.h26x_reorder.specs.ReorderBuffer.{BufferState, IsBufferState, buffer_state};
+    ghost use Rattle.h26x_reorder.specs.NumberOrder.{IsNumberOrder};
+    ghost use Rattle.h26x_reorder.specs.ReorderBuffer.{BufferState, buffer_state};
 
     ghost Value = { BufferState RtpBody };
 
     ghost view = { λ b. buffer_state b.window b.due (map T.numbered b.held) };
 
-    ghost invariant = { λ b. IsBufferState (buffer_state b.window b.due (map T.numbered b.held)) };
+    ghost invariant = { λ b.
+        IsNumberOrder b.newest (buffer_state b.window b.due (map T.numbered b.held)) };
 }
 
 impl<T: Numbered> NumberOrder<T> {
@@ -49,6 +53,7 @@ impl<T: Numbered> NumberOrder<T> {
             window,
             due: None,
             held: Parted::new(alloc),
+            newest: 0,
         }
     }
 
@@ -149,7 +154,7 @@ impl<T: Numbered> NumberOrder<T> {
         ensures { IsSearchResult self.now.held due number result }
     {
         let len = self.len();
-        if len == 0 || self.ahead_at(due, len - 1) < number.wrapping_sub(due) {
+        if len == 0 || self.newest.wrapping_sub(due) < number.wrapping_sub(due) {
             return Err(len);
         }
         self.search(due, number)
@@ -185,7 +190,13 @@ impl<T: Numbered> NumberOrder<T> {
         ensures kept { OnErr result (self.new ≡ self.old) }
         ensures back { IfErr result (λ it. it.value ≡ packet) }
     {
+        let newest = if place == self.held.len() {
+            packet.sequence()
+        } else {
+            self.newest
+        };
         self.held.insert(place, packet)?;
+        self.newest = newest;
         self.due = Some(due);
         Ok(())
     }
@@ -194,10 +205,7 @@ impl<T: Numbered> NumberOrder<T> {
     pub(crate) fn newest(&self, due: u16) -> u16
         ensures { result ≡ newest_of due self.now.held }
     {
-        match self.len() {
-            0 => due,
-            len => self.number_at(len - 1),
-        }
+        if self.is_empty() { due } else { self.newest }
     }
 
     /// Whether a number is ahead of all packets, and not late.
@@ -239,7 +247,9 @@ impl<T: Numbered> NumberOrder<T> {
             (push_answer (after_push self.old (T.numbered first)) (T.numbered second).0 ≡ Pushed.Held) }
         ensures kept { OnErr result (self.new ≡ self.old) }
     {
+        let number = second.sequence();
         self.held.push_two(first, second)?;
+        self.newest = number;
         Ok(())
     }
 
@@ -286,40 +296,32 @@ impl<T: Numbered> NumberOrder<T> {
         self.due = Some(number.wrapping_add(1));
     }
 
-    /// Whether the first packet may go. Where it is the one that is due the last is not looked at.
+    /// Whether the first packet may go.
     #[inline]
     pub(crate) fn is_ready(&self) -> bool
         ensures ready { result ≡ is_some (next_packet self.now) }
         ensures few { result ≡ false → length self.now.held < self.now.window }
     {
-        self.has_due() || self.is_ready_by_window()
-    }
-
-    /// Whether the packet that is due is held, which is the first then.
-    #[inline]
-    fn has_due(&self) -> bool
-        ensures { result ≡ true → is_some (next_packet self.now) ≡ true }
-    {
-        match (self.due, self.held.first()) {
-            (Some(due), Some(first)) => first.sequence() == due,
-            _ => false,
+        match self.held.first() {
+            Some(first) => self.may_go(first.sequence()),
+            None => false,
         }
     }
 
-    /// Whether the first packet may go, by the last too.
+    /// Whether the first packet, which has this number, may go. No packet is looked at for it.
     #[inline]
-    fn is_ready_by_window(&self) -> bool
+    pub(crate) fn may_go(&self, first: u16) -> bool
+        requires { first_number self.now.held ≡ Some first }
         ensures ready { result ≡ is_some (next_packet self.now) }
         ensures few { result ≡ false → length self.now.held < self.now.window }
     {
-        match (self.due, self.held.first(), self.held.last()) {
-            (Some(due), Some(first), Some(last)) => {
-                let number = first.sequence();
-                let ahead = number.wrapping_sub(due);
-                let newest = last.sequence().wrapping_sub(due);
-                number == due || newest - ahead + 1 >= self.window
+        match self.due {
+            Some(due) => {
+                let ahead = first.wrapping_sub(due);
+                let newest = self.newest.wrapping_sub(due);
+                first == due || newest - ahead + 1 >= self.window
             }
-            _ => false,
+            None => false,
         }
     }
 

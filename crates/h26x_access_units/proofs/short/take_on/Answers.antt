@@ -1,10 +1,10 @@
-use Rattle.std.proofs.Common.{◌≡◌, ◌∙◌, ap, subst, ℕ, false, Ok}
+use Rattle.std.proofs.Common.{◌≡◌, ◌∙◌, ap, sym, subst, ℕ, List, false, Ok, Err}
 use Rattle.h26x_reorder.specs.Rtp.{RtpBody}
 use Rattle.h26x_assembler.specs.declared.assembler.AccessUnitAssembler.{AccessUnitAssembler}
 use Rattle.h26x_assembler.specs.Assembler.{assembly_at}
 use Rattle.h26x_assembler.specs.AccessUnit.{Assembly, is_text_given_up}
 use Rattle.h26x_access_units.specs.declared.framing.Framing.{Framing}
-use Rattle.h26x_access_units.specs.Reception.{begun_for, framing_of, believed, IsAnswerTo, framing_answered, numbers_answered, counts_answered}
+use Rattle.h26x_access_units.specs.Reception.{marker_forgotten, assembly_after, lacks_memory, begun_for, framing_of, believed, IsAnswerTo, framing_answered, numbers_answered, counts_answered}
 use Rattle.h26x_access_units.proofs.ReceptionLemmas.{counts_as}
 use Rattle.h26x_access_units.proofs.ShortLemmas.{is_on, on_as, answer_as, at_not_still, none_unbelieved, in_order_framing, in_order_numbers, in_order_counts}
 use Rattle.h26x_access_units.proofs.short.take_on.Goals as goal
@@ -43,12 +43,77 @@ returns-else-is_in_order-clause-counts g c =
     ∙ counts_as s c.args.counts.now c.args.framing.now p p.1.marker false false _ _ c.in-Ok.received (at_not_still s c.args.framing.now p it.at) (none_unbelieved p.1.marker)
     (λ some taken. ap (λ (a : AccessUnitAssembler _). a.is_text_given_up) c.forget_marker.ensures ∙ c.in-Ok.ensures.text c.args.ended.now.items taken))
 
+pub pass_refused-error-requires : goal.pass_refused-error-requires
+pass_refused-error-requires g c =
+    let state = g.D.RunDepacketizer.state in
+    let ended = c.args.ended.now.items in
+    let s = assembly_at state c.args.assembler.now ended in
+    let most = c.args.assembler.now.packets.run_limit in
+    let p = c.args.packet.now in
+    let f = c.args.framing.now in
+    let n = c.args.numbers.now in
+    let it = is_on s f n p c.requires in
+    subst (λ (a : AccessUnitAssembler _). IsAnswerTo a.packets.run_limit (assembly_at state a ended) p (Err c.in-Err.error)) (sym c.in-Err.ensures.kept)
+    (answer_as most s p (Err c.in-Err.error) it.bears (c.in-Err.ensures.answer c.args.ended.now.items))
+
 pub returns-in-Err-clause-answer : goal.returns-in-Err-clause-answer
 returns-in-Err-clause-answer g c =
-    subst (λ (a : AccessUnitAssembler _).
-    let b = begun_for (assembly_at g.D.RunDepacketizer.state a c.args.ended.now.items) c.args.packet.now in
-    IsAnswerTo a.packets.run_limit b (believed (framing_of b c.args.framing.now c.args.numbers.now c.args.packet.now) c.args.packet.now) c.take_begun.result)
-    c.in-Err.ensures.kept c.take_begun.ensures.answer
+    let state = g.D.RunDepacketizer.state in
+    let ended = c.args.ended.now.items in
+    let s = assembly_at state c.args.assembler.now ended in
+    let most = c.args.assembler.now.packets.run_limit in
+    let p = c.args.packet.now in
+    let f = c.args.framing.now in
+    let n = c.args.numbers.now in
+    let it = is_on s f n p c.requires in
+    let e = c.pass_refused-error.result in
+    on_as s f n p (λ (b : Assembly) (at : Framing) (q : ℕ × RtpBody). IsAnswerTo most b q (Err e)) it
+    (subst (λ (a : AccessUnitAssembler _). IsAnswerTo a.packets.run_limit (assembly_at state a ended) p (Err e)) c.in-Err.ensures.kept c.pass_refused-error.ensures.answer)
+
+pub returns-in-Err-clause-after : goal.returns-in-Err-clause-after
+returns-in-Err-clause-after g c =
+    let state = g.D.RunDepacketizer.state in
+    let ended = c.args.ended.now.items in
+    let s = assembly_at state c.args.assembler.now ended in
+    let most = c.args.assembler.now.packets.run_limit in
+    let limit = c.args.assembler.now.unit_limit in
+    let p = c.args.packet.now in
+    let f = c.args.framing.now in
+    let n = c.args.numbers.now in
+    let it = is_on s f n p c.requires in
+    let e = c.pass_refused-error.result in
+    on_as s f n p (λ (b : Assembly) (at : Framing) (q : ℕ × RtpBody). lacks_memory (Err e) ≡ false → assembly_at state c.pass_refused-error.new.assembler c.pass_refused-error.new.ended.items ≡ marker_forgotten (assembly_after most limit b q (Err e))) it
+    (subst (λ (a : AccessUnitAssembler _). lacks_memory (Err e) ≡ false → assembly_at state c.pass_refused-error.new.assembler c.pass_refused-error.new.ended.items ≡ marker_forgotten (assembly_after a.packets.run_limit a.unit_limit (assembly_at state a ended) p (Err e))) c.in-Err.ensures.kept c.pass_refused-error.ensures.after)
+
+pub returns-in-Err-clause-numbers : goal.returns-in-Err-clause-numbers
+returns-in-Err-clause-numbers g c =
+    let state = g.D.RunDepacketizer.state in
+    let ended = c.args.ended.now.items in
+    let s = assembly_at state c.args.assembler.now ended in
+    let most = c.args.assembler.now.packets.run_limit in
+    let limit = c.args.assembler.now.unit_limit in
+    let p = c.args.packet.now in
+    let f = c.args.framing.now in
+    let n = c.args.numbers.now in
+    let it = is_on s f n p c.requires in
+    let e = c.pass_refused-error.result in
+    on_as s f n p (λ (b : Assembly) (at : Framing) (q : ℕ × RtpBody). lacks_memory (Err e) ≡ false → c.pass_refused-error.new.numbers ≡ numbers_answered b n at q (Err e)) it
+    (subst (λ (a : AccessUnitAssembler _). lacks_memory (Err e) ≡ false → c.pass_refused-error.new.numbers ≡ numbers_answered (assembly_at state a ended) n f p (Err e)) c.in-Err.ensures.kept (c.pass_refused-error.ensures.numbers f))
+
+pub returns-in-Err-clause-counts : goal.returns-in-Err-clause-counts
+returns-in-Err-clause-counts g c =
+    let state = g.D.RunDepacketizer.state in
+    let ended = c.args.ended.now.items in
+    let s = assembly_at state c.args.assembler.now ended in
+    let most = c.args.assembler.now.packets.run_limit in
+    let limit = c.args.assembler.now.unit_limit in
+    let p = c.args.packet.now in
+    let f = c.args.framing.now in
+    let n = c.args.numbers.now in
+    let it = is_on s f n p c.requires in
+    let e = c.pass_refused-error.result in
+    on_as s f n p (λ (b : Assembly) (at : Framing) (q : ℕ × RtpBody). lacks_memory (Err e) ≡ false → c.pass_refused-error.new.counts ≡ counts_answered b c.args.counts.now at q p.1.marker (is_text_given_up most limit b q) (Err e)) it
+    (subst (λ (a : AccessUnitAssembler _). lacks_memory (Err e) ≡ false → c.pass_refused-error.new.counts ≡ counts_answered (assembly_at state a ended) c.args.counts.now f p p.1.marker false (Err e)) c.in-Err.ensures.kept (c.pass_refused-error.ensures.counts f p.1.marker false))
 
 pub returns-then-is_in_order-clause-answer : goal.returns-then-is_in_order-clause-answer
 returns-then-is_in_order-clause-answer g c =

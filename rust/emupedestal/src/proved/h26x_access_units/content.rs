@@ -208,6 +208,25 @@ pub(crate) fn content_kind(extra: CodecExtra, unit: &[u8]) -> UnitKind {
     }
 }
 
+/// Whether a unit that begins with these bytes is a slice, by what is told of its codec: what
+/// [`content_kind`] tells, with less work.
+#[inline(always)]
+pub(crate) fn is_slice(extra: CodecExtra, first: [u8; 3]) -> bool {
+    let [header, second, _] = first;
+    match extra {
+        CodecExtra::None => false,
+        CodecExtra::H264(_) => matches!(header & 0x1f, 1 | 2 | 5),
+        CodecExtra::H265(_) => {
+            let is_base = header & 1 == 0 && second >> 3 == 0 && second & 7 != 0;
+            is_base && matches!(header >> 1 & 0x3f, 0..=9 | 16..=21)
+        }
+        CodecExtra::H266(_) => {
+            let is_base = header & 0x3f == 0 && second & 7 != 0;
+            is_base && matches!(second >> 3, 0..=3 | 7..=10)
+        }
+    }
+}
+
 /// What stands behind the first start code of a text. That of four bytes, with which texts are written,
 /// is looked for at the front first, which takes no search.
 #[inline]

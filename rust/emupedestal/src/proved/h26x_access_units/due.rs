@@ -161,6 +161,35 @@ fn framing_of<D: RunDepacketizer>(
     framing.with(is_open, true, shown_by(depacketizer, packet.payload))
 }
 
+/// Passes over a packet that the assembler refused, and notes it. The answer is why it is refused: for
+/// want of memory all stays as it was, also where an access unit was to end with it.
+#[cold]
+#[inline(never)]
+pub(crate) fn pass_refused<D: RunDepacketizer>(
+    assembler: &mut AccessUnitAssembler<D>,
+    ended: &mut Vec<AccessUnit>,
+    numbers: &mut NumbersSoFar,
+    counts: &mut Counts,
+    packet: &RtpPacket<'_>,
+    error: PacketError,
+) -> PacketError {
+    if matches!(error, PacketError::OutOfMemory) {
+        return error;
+    }
+    let extra = assembler.packets.depacketizer.extra(false);
+    if bears_no_unit(extra, error, packet.payload) {
+        return match pass_no_unit(assembler, ended, numbers, counts, packet) {
+            Ok(()) => error,
+            Err(lack) => lack,
+        };
+    }
+    let missing = missing_with(assembler.pass_over(packet.sequence));
+    assembler.forget_marker();
+    numbers.skip(missing);
+    counts.refuse(missing);
+    error
+}
+
 /// Gives it a packet that is due, passes over one that it refuses, and notes what became of it: `at` is
 /// what is known with it of where access units end, and it has its marker where that is believed.
 /// Without memory all stays as it was.
@@ -186,17 +215,8 @@ fn take_noted<D: RunDepacketizer>(
             );
             Ok(received)
         }
-        Err(PacketError::OutOfMemory) => Err(PacketError::OutOfMemory),
         Err(error) => {
-            let extra = assembler.packets.depacketizer.extra(false);
-            if bears_no_unit(extra, error, packet.payload) {
-                pass_no_unit(assembler, ended, numbers, counts, packet)?;
-                return Err(error);
-            }
-            let missing = missing_with(assembler.pass_over(packet.sequence));
-            assembler.forget_marker();
-            numbers.skip(missing);
-            counts.refuse(missing);
+            let error = pass_refused(assembler, ended, numbers, counts, packet, error);
             Err(error)
         }
     }

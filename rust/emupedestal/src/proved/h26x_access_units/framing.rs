@@ -2,7 +2,7 @@
 
 //! Where access units begin and end, where timestamps and markers don't tell it.
 
-use crate::proved::h26x_access_units::content::{UnitKind, byte_at, content_kind};
+use crate::proved::h26x_access_units::content::{UnitKind, byte_at, content_kind, is_slice};
 use crate::proved::h26x_core::{CodecExtra, PacketError};
 use crate::proved::h26x_depacketizer::{RunDepacketizer, UnitTest};
 
@@ -35,9 +35,9 @@ struct IsSlice {
 }
 
 impl UnitTest for IsSlice {
-    #[inline]
+    #[inline(always)]
     fn holds(&self, first: [u8; 3]) -> bool {
-        matches!(content_kind(self.extra, &first), UnitKind::Slice(_))
+        is_slice(self.extra, first)
     }
 }
 

@@ -324,11 +324,18 @@ impl JitterBuffer {
     /// The packet that is due at this tick, if one is. It stays until it is popped.
     #[inline]
     pub fn first_due(&self, now: u32) -> Option<&HeldPacket> {
-        if self.buffer.is_ready() || self.is_pressed(now) {
-            self.buffer.first()
+        let first = self.buffer.first()?;
+        if self.buffer.may_go(first.sequence) || self.is_pressed(now) {
+            Some(first)
         } else {
             None
         }
+    }
+
+    /// The packet that is due at some tick, where one is known to be: the first.
+    #[inline(always)]
+    pub(crate) fn known_due(&self) -> Option<&HeldPacket> {
+        self.buffer.first()
     }
 
     /// The first packet, due or not.
@@ -414,16 +421,10 @@ impl JitterBuffer {
         true
     }
 
-    /// Whether no packet waits, and the stream hasn't ended.
+    /// Whether a packet is due at this tick.
     #[inline]
-    pub(crate) fn waits_for_none(&self) -> bool {
-        self.is_empty() && !self.is_over
-    }
-
-    /// Whether no packet is due at this tick, and the stream hasn't ended.
-    #[inline]
-    pub(crate) fn has_none_due(&self, now: u32) -> bool {
-        !self.is_over && self.first_due(now).is_none()
+    pub(crate) fn has_due(&self, now: u32) -> bool {
+        !self.is_empty() && self.first_due(now).is_some()
     }
 
     /// Whether the stream has ended.

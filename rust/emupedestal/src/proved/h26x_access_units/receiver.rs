@@ -343,7 +343,16 @@ impl<D: RunDepacketizer> AccessUnitReceiver<D> {
     /// Takes the packet that is due, if one is; where the access unit that is open ends before it
     /// that ends first, and if there is one the packet is due still.
     fn step(&mut self, now: u32) -> Result<bool, PacketError> {
-        let packet = match self.waiting.first_due(now) {
+        if self.waiting.first_due(now).is_none() {
+            return Ok(false);
+        }
+        self.step_due(now)
+    }
+
+    /// So where a packet is due.
+    #[inline(never)]
+    fn step_due(&mut self, now: u32) -> Result<bool, PacketError> {
+        let packet = match self.waiting.known_due() {
             Some(held) => held.packet(),
             None => return Ok(false),
         };
@@ -460,18 +469,19 @@ impl<D: RunDepacketizer> AccessUnitReceiver<D> {
         if self.has_unit() {
             return Ok(self.give());
         }
-        if self.is_idle(now) {
+        if !self.has_nothing_left() {
+            return self.next_left(now);
+        }
+        if !self.waiting.has_due(now) {
             return Ok(None);
         }
         self.next_due(now)
     }
 
-    /// Whether there is nothing to take at this tick, or to give out: of packets that wait only the
-    /// first is looked at.
+    /// Whether nothing is left that ended or has to end.
     #[inline]
-    fn is_idle(&self, now: u32) -> bool {
-        let none_is_left = !self.has_ended() && !self.is_anew;
-        none_is_left && (self.waiting.waits_for_none() || self.waiting.has_none_due(now))
+    fn has_nothing_left(&self) -> bool {
+        !self.has_ended() && !self.is_anew && !self.waiting.is_over()
     }
 
     /// Whether the first access unit that ended has bytes, so that it is the next.
@@ -483,9 +493,19 @@ impl<D: RunDepacketizer> AccessUnitReceiver<D> {
         }
     }
 
-    /// What `next` does.
+    /// What `next` does where a packet is due and nothing else is left. It isn't asked for again.
     #[inline(never)]
     fn next_due(&mut self, now: u32) -> Result<Option<ReceivedAccessUnit>, PacketError> {
+        let _ = self.step_due(now)?;
+        self.drain(now)?;
+        self.end_if_over()?;
+        let _ = self.drop_bare();
+        Ok(self.give())
+    }
+
+    /// What `next` does.
+    #[inline(never)]
+    fn next_left(&mut self, now: u32) -> Result<Option<ReceivedAccessUnit>, PacketError> {
         let _ = self.drop_bare();
         self.end_if_anew()?;
         self.drain(now)?;

@@ -4,7 +4,9 @@
 //! the sole one of an access unit.
 
 use crate::proved::h26x_access_units::counts::Counts;
-use crate::proved::h26x_access_units::due::{note_in_order, note_received, take_begun};
+use crate::proved::h26x_access_units::due::{
+    note_in_order, note_received, pass_refused, take_begun,
+};
 use crate::proved::h26x_access_units::framing::{Framing, Shown, bears_slice};
 use crate::proved::h26x_access_units::numbers::{NumbersSoFar, is_timestamp};
 use crate::proved::h26x_assembler::{AccessUnit, AccessUnitAssembler};
@@ -61,8 +63,10 @@ fn take_on<D: RunDepacketizer>(
             );
             Ok(received)
         }
-        Err(PacketError::OutOfMemory) => Err(PacketError::OutOfMemory),
-        Err(_) => take_begun(assembler, ended, framing, numbers, counts, packet),
+        Err(error) => {
+            let error = pass_refused(assembler, ended, numbers, counts, packet, error);
+            Err(error)
+        }
     }
 }
 
@@ -112,8 +116,10 @@ fn take_sole<D: RunDepacketizer>(
             );
             Ok(received)
         }
-        Err(PacketError::OutOfMemory) => Err(PacketError::OutOfMemory),
-        Err(_) => take_begun(assembler, ended, framing, numbers, counts, packet),
+        Err(error) => {
+            let error = pass_refused(assembler, ended, numbers, counts, packet, error);
+            Err(error)
+        }
     }
 }
 

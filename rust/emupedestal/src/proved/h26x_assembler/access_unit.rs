@@ -307,7 +307,7 @@ impl OpenAccessUnit {
 
     /// Puts one in its place, where none is open, or appends it where it has ended: then its run stands
     /// aside.
-    #[inline]
+    #[inline(always)]
     pub(crate) fn put(
         &mut self,
         mut unit: AccessUnitSoFar,

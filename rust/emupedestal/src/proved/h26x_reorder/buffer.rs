@@ -187,6 +187,12 @@ impl ReorderBuffer {
         self.held.is_ready()
     }
 
+    /// Whether the first of the packets held, which has this number, may go.
+    #[inline]
+    pub(crate) fn may_go(&self, first: u16) -> bool {
+        self.held.may_go(first)
+    }
+
     /// Whether a packet with this number needn't be held: none is, and it is the one that is due. A
     /// caller who used it tells so by `pass`.
     #[inline]

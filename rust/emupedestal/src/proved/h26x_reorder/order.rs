@@ -18,6 +18,8 @@ pub(crate) struct NumberOrder<T: Numbered> {
     window: u16,
     due: Option<u16>,
     held: Parted<T>,
+    /// The number of the last packet, where there is one.
+    newest: u16,
 }
 
 impl<T: Numbered> NumberOrder<T> {
@@ -27,6 +29,7 @@ impl<T: Numbered> NumberOrder<T> {
             window,
             due: None,
             held: Parted::new(),
+            newest: 0,
         }
     }
 
@@ -100,7 +103,7 @@ impl<T: Numbered> NumberOrder<T> {
     #[inline(always)]
     fn place_from(&self, due: u16, number: u16) -> Result<usize, usize> {
         let len = self.len();
-        if len == 0 || self.ahead_at(due, len - 1) < number.wrapping_sub(due) {
+        if len == 0 || self.newest.wrapping_sub(due) < number.wrapping_sub(due) {
             return Err(len);
         }
         self.search(due, number)
@@ -125,17 +128,20 @@ impl<T: Numbered> NumberOrder<T> {
     /// Puts a packet at its place. Without memory all stays as it was, and the packet comes back.
     #[inline(always)]
     pub(crate) fn put(&mut self, due: u16, place: usize, packet: T) -> Result<(), AllocFailed<T>> {
+        let newest = if place == self.held.len() {
+            packet.sequence()
+        } else {
+            self.newest
+        };
         self.held.try_insert(place, packet)?;
+        self.newest = newest;
         self.due = Some(due);
         Ok(())
     }
 
     /// The number of the last packet, or the one that is due where there is none.
     pub(crate) fn newest(&self, due: u16) -> u16 {
-        match self.len() {
-            0 => due,
-            len => self.number_at(len - 1),
-        }
+        if self.is_empty() { due } else { self.newest }
     }
 
     /// Whether a number is ahead of all packets, and not late.
@@ -162,7 +168,9 @@ impl<T: Numbered> NumberOrder<T> {
 
     /// Puts two packets behind all others. Without memory for both all stays as it was.
     pub(crate) fn put_two(&mut self, first: T, second: T) -> Result<(), AllocError> {
+        let number = second.sequence();
         self.held.push_two(first, second)?;
+        self.newest = number;
         Ok(())
     }
 
@@ -196,32 +204,25 @@ impl<T: Numbered> NumberOrder<T> {
         self.due = Some(number.wrapping_add(1));
     }
 
-    /// Whether the first packet may go. Where it is the one that is due the last is not looked at.
+    /// Whether the first packet may go.
     #[inline]
     pub(crate) fn is_ready(&self) -> bool {
-        self.has_due() || self.is_ready_by_window()
-    }
-
-    /// Whether the packet that is due is held, which is the first then.
-    #[inline]
-    fn has_due(&self) -> bool {
-        match (self.due, self.held.first()) {
-            (Some(due), Some(first)) => first.sequence() == due,
-            _ => false,
+        match self.held.first() {
+            Some(first) => self.may_go(first.sequence()),
+            None => false,
         }
     }
 
-    /// Whether the first packet may go, by the last too.
+    /// Whether the first packet, which has this number, may go. No packet is looked at for it.
     #[inline]
-    fn is_ready_by_window(&self) -> bool {
-        match (self.due, self.held.first(), self.held.last()) {
-            (Some(due), Some(first), Some(last)) => {
-                let number = first.sequence();
-                let ahead = number.wrapping_sub(due);
-                let newest = last.sequence().wrapping_sub(due);
-                number == due || newest - ahead + 1 >= self.window
+    pub(crate) fn may_go(&self, first: u16) -> bool {
+        match self.due {
+            Some(due) => {
+                let ahead = first.wrapping_sub(due);
+                let newest = self.newest.wrapping_sub(due);
+                first == due || newest - ahead + 1 >= self.window
             }
-            _ => false,
+            None => false,
         }
     }
 

@@ -72,15 +72,6 @@ impl<T> Parted<T> {
         }
     }
 
-    /// The last of all.
-    #[inline]
-    pub(crate) fn last(&self) -> Option<&T> {
-        match self.back.back() {
-            Some(value) => Some(value),
-            None => self.front.back(),
-        }
-    }
-
     /// Takes out the first of all. Where the front ends, the back is what is left, and takes its
     /// place. Both keep their memory.
     #[inline]

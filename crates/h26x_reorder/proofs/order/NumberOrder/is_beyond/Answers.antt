@@ -10,4 +10,4 @@ returns-then-newest-due-clause-held g c = λ is.
     let number = c.args.number in
     let here : is_beyond c.args.self.now number ≡ true = search rules in
     let there : is_beyond b number ≡ true = subst (λ (s : BufferState _). is_beyond s number ≡ true) (sym c.self.view_is) here in
-    subst (λ (s : BufferState _). push_answer s number ≡ pushes.Held) c.self.view_is (beyond_held b number c.self.invariant.order there)
+    subst (λ (s : BufferState _). push_answer s number ≡ pushes.Held) c.self.view_is (beyond_held b number c.self.invariant.buffer.order there)

@@ -8,7 +8,7 @@ pub invariant_of-self : goal.invariant_of-self
 invariant_of-self g c =
     let b = buffer_state c.self.inside.window c.self.inside.due (map g.T.Numbered.numbered c.self.inside.held) in
     let is : goes_straight b c.args.number ≡ true = search rules in
-    record { some = c.self.invariant.some; half = c.self.invariant.half; order = straight_order b c.args.number is }
+    record { buffer = record { some = c.self.invariant.buffer.some; half = c.self.invariant.buffer.half; order = straight_order b c.args.number is }; last = c.self.invariant.last }
 
 pub returns : goal.returns
 returns g c = λ packet.

@@ -12,4 +12,4 @@ returns-in-Ok-clause-same g c = λ packet.
     let due = c.unwrap_or-due.ensures ∙ due_is c.self.inside.window c.self.inside.due number in
     let near = subst (λ (d : ℕ). distance_ahead d number < 32768) due (omega (arith, c.if-ahead-ge-HALF.false)) in
     subst (λ (s : BufferState RtpBody). is_number_held number s.held ≡ true → s ≡ after_push s (number, packet)) c.self.view_is
-    (λ held. pushed_again b (number, packet) c.self.invariant.order near held) c.in-Ok.ensures
+    (λ held. pushed_again b (number, packet) c.self.invariant.buffer.order near held) c.in-Ok.ensures

@@ -3,8 +3,9 @@ use Rattle.std.specs.Prelude.{slice_get}
 use Rattle.std.specs.Option.{option_map}
 use Rattle.h26x_core.specs.Sequence.{next_sequence_number}
 use Rattle.h26x_reorder.specs.Rtp.{RtpBody}
-use Rattle.h26x_reorder.specs.ReorderBuffer.{BufferState, buffer_state, without_first_of, without_first, IsHeldInOrder}
+use Rattle.h26x_reorder.specs.ReorderBuffer.{BufferState, buffer_state, without_first_of, without_first, IsHeldInOrder, last_number}
 use Rattle.h26x_reorder.proofs.BufferLemmas.{rest_in_order, empty_is}
+use Rattle.h26x_reorder.proofs.NewestLemmas.{last_without}
 use Rattle.h26x_reorder.proofs.order.NumberOrder.pop_first.Given.{Over}
 use Rattle.h26x_reorder.proofs.order.NumberOrder.pop_first.Goals as goal
 
@@ -33,10 +34,13 @@ invariant_of-self-2 g c =
     let n = g.T.Numbered.numbered in
     let rest = c.pop_first.new.self in
     let items : c.self.inside.held ≡ c.in_ok-first.first ∷ rest = search rules in
-    let order = subst (λ (l : List (ℕ × RtpBody)). IsHeldInOrder c.self.inside.due l) (ap (map n) items) c.self.invariant.order in
+    let order = subst (λ (l : List (ℕ × RtpBody)). IsHeldInOrder c.self.inside.due l) (ap (map n) items) c.self.invariant.buffer.order in
     let next = rest_in_order c.self.inside.due (n c.in_ok-first.first) (map n rest) order in
     record {
-      some = c.self.invariant.some;
-      half = c.self.invariant.half;
-      order = subst (λ (k : ℕ). IsHeldInOrder (Some (next_sequence_number k)) (map n rest)) (sym c.sequence.ensures) next;
+      buffer = record {
+        some = c.self.invariant.buffer.some;
+        half = c.self.invariant.buffer.half;
+        order = subst (λ (k : ℕ). IsHeldInOrder (Some (next_sequence_number k)) (map n rest)) (sym c.sequence.ensures) next;
+      };
+      last = last_without c.self.inside.newest (n c.in_ok-first.first) (map n rest) (sym (ap (λ l. last_number c.self.inside.newest (map n l)) items) ∙ c.self.invariant.last);
     }

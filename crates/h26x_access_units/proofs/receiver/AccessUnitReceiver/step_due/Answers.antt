@@ -5,7 +5,7 @@ use Rattle.h26x_reorder.specs.Rtp.{RtpBody}
 use Rattle.h26x_assembler.specs.AccessUnit.{access_unit_value, open_assembly}
 use Rattle.h26x_access_units.specs.Reception.{reception, lacks_memory, taken_alone}
 use Rattle.h26x_access_units.proofs.ReceptionLemmas.{due_stands}
-use Rattle.h26x_access_units.proofs.receiver.AccessUnitReceiver.step.Goals as goal
+use Rattle.h26x_access_units.proofs.receiver.AccessUnitReceiver.step_due.Goals as goal
 
 pub returns-clause-step : goal.returns-clause-step
 returns-clause-step g c =
@@ -16,7 +16,7 @@ returns-clause-step g c =
     taken_alone (record {
       packet = c.packet-packet.result;
       answer = it.result;
-      due = sym c.in-Some.ensures ∙ ap (λ (p : ℕ × RtpBody). Some p) (sym c.packet-packet.ensures);
+      due = sym (c.in-Some.ensures c.args.now c.requires.due) ∙ ap (λ (p : ℕ × RtpBody). Some p) (sym c.packet-packet.ensures);
       follows = sym (c.ends_before.ensures old.ended.items) ∙ c.if-ends_before.false;
       answered = it.ensures.answer;
       room = λ bad. absurd (let both = sym (ap lacks_memory bad) ∙ lacks in cc);
