@@ -168,6 +168,44 @@ impl AnyDepacketizer {
     {
         with_held!(self, |it| it.depacketize_into(packet, out, codec_extra))
     }
+
+    /// Takes a packet as `depacketize_into` does, and writes units in this form, whatever is set:
+    /// behind lengths or behind start codes. It asks once which codec's it is.
+    #[inline(always)]
+    pub fn depacketize_as<W: UnitSink>(
+        &mut self,
+        is_avc: bool,
+        packet: &[u8],
+        out: &mut W,
+        codec_extra: &mut CodecExtra,
+    ) -> Result<(), PacketError>
+        ensures outcome { IsPacketOutcome (any_depacketization
+            (any_depacketizer_with_avc is_avc self.old) (W.sink out.old).bytes codec_extra.old)
+            packet.now result }
+        ensures taken { OnOk result (any_depacketization
+            (any_depacketizer_with_avc is_avc self.new) (W.sink out.new).bytes codec_extra.new
+            ≡ after_packets (any_depacketization (any_depacketizer_with_avc is_avc self.old)
+            (W.sink out.old).bytes codec_extra.old) (packet.now ∷ [])) }
+        ensures behind { OnOk result (W.sink out.new
+            ≡ grown_to (W.sink out.new).bytes (W.sink out.old)) }
+        ensures accepted { OnOk result (IsFrontOf (W.sink out.old).bytes (W.sink out.new).bytes) }
+        ensures rest { OnOk result (IsSameBesideRun any_depacketizer_with_run self.new
+            (any_depacketizer_showing packet.now self.old)) }
+        ensures startless_h264 { (it : H264View) → self.old ≡ a.H264 it →
+            is_startless_h264 it packet.now ≡ true → IsOk result }
+        ensures startless_h266 { (it : H266View) → self.old ≡ a.H266 it →
+            is_startless_h266 it packet.now ≡ true → IsOk result }
+        ensures kept { OnErr result (self.new ≡ self.old) }
+        ensures kept_sink { OnErr result (W.sink out.new ≡ W.sink out.old) }
+        ensures kept_extra { OnErr result (codec_extra.new ≡ codec_extra.old) }
+        ensures told_room { TellsRoom W.room W.lacks out.old out.new result (bytes_brought
+            (any_depacketizer_state (any_depacketizer_with_avc is_avc self.old)) packet.now) }
+    {
+        with_held!(
+            self,
+            |it| it.depacketize_as(is_avc, packet, out, codec_extra)
+        )
+    }
 }
 
 impl Depacketizer for AnyDepacketizer {

@@ -82,7 +82,7 @@ fn write_behind_length<W: UnitSink>(unit: &[u8], out: &mut W) -> Result<(), Pack
 }
 
 /// Writes a whole unit behind a start code (Annex B of H.264, H.265 and H.266).
-#[inline]
+#[inline(always)]
 fn write_behind_start_code<W: UnitSink>(unit: &[u8], out: &mut W) -> Result<(), PacketError>
     ensures outcome { IsWriteOutcome false result }
     ensures written { OnOk result

@@ -51,6 +51,7 @@ fn first_bytes_of<C: PayloadFormat>(codec: C, head: [u8; 2], body: &[u8]) -> [u8
 }
 
 /// Whether it is so of one of the units of an aggregate's bytes.
+#[inline(never)]
 fn holds_unit<A: Aggregate, T: UnitTest>(codec: A, bytes: &[u8], test: &T) -> bool
     ensures { result
         ≡ list_any (λ unit. T.holds test.now (first_bytes unit)) (A.units codec bytes.now) }
@@ -77,6 +78,7 @@ fn first_unit_in<A: Aggregate>(codec: A, bytes: &[u8]) -> Option<[u8; 3]>
 
 /// Whether it is so of a unit of which a packet bears something: of a fragment that doesn't start its
 /// unit by the header alone. None is borne by a packet that is refused. It takes no memory.
+#[inline(always)]
 pub fn bears_unit<C: PacketReader, T: UnitTest>(codec: C, packet: &[u8], test: &T) -> bool
     ensures { result ≡ list_any (λ unit. T.holds test.now (first_bytes unit))
         (borne_units ((C.format codec).read packet.now)) }

@@ -121,7 +121,7 @@ impl ReceivingEndpoint {
 
 /// Takes a packet, and writes units behind lengths or behind start codes. The setting of the
 /// depacketizer itself counts for nothing, and stays.
-#[inline]
+#[inline(always)]
 fn take<W: UnitSink>(
     it: &mut AnyDepacketizer,
     is_avc: bool,
@@ -142,9 +142,5 @@ fn take<W: UnitSink>(
     ensures kept_sink { OnErr result (W.sink out.new ≡ W.sink out.old) }
     ensures kept_extra { OnErr result (extra.new ≡ extra.old) }
 {
-    let setting = it.is_avc();
-    it.set_avc(is_avc);
-    let outcome = it.depacketize_into(packet, out, extra);
-    it.set_avc(setting);
-    outcome
+    it.depacketize_as(is_avc, packet, out, extra)
 }

@@ -91,7 +91,7 @@ impl<T> TryVec<T> for Vec<T> {
         Ok(made)
     }
 
-    #[inline]
+    #[inline(always)]
     fn try_push(&mut self, item: T) -> Result<(), AllocError> {
         self.try_reserve(1)?;
         self.push(item);

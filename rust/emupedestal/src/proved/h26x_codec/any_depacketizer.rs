@@ -104,6 +104,25 @@ impl AnyDepacketizer {
     ) -> Result<(), PacketError> {
         with_held!(self, |it| it.depacketize_into(packet, out, codec_extra))
     }
+
+    /// Takes a packet as `depacketize_into` does, and writes units in this form, whatever is set:
+    /// behind lengths or behind start codes. It asks once which codec's it is.
+    #[allow(dead_code, reason = "the C library has it")]
+    #[inline(always)]
+    pub fn depacketize_as<W: UnitSink>(
+        &mut self,
+        is_avc: bool,
+        packet: &[u8],
+        out: &mut W,
+        codec_extra: &mut CodecExtra,
+    ) -> Result<(), PacketError> {
+        with_held!(self, |it| it.depacketize_as(
+            is_avc,
+            packet,
+            out,
+            codec_extra
+        ))
+    }
 }
 
 impl Depacketizer for AnyDepacketizer {

@@ -51,7 +51,7 @@ fn write_behind_length<W: UnitSink>(unit: &[u8], out: &mut W) -> Result<(), Pack
 }
 
 /// Writes a whole unit behind a start code (Annex B of H.264, H.265 and H.266).
-#[inline]
+#[inline(always)]
 fn write_behind_start_code<W: UnitSink>(unit: &[u8], out: &mut W) -> Result<(), PacketError> {
     out.try_reserve(unit.len().saturating_add(PREFIX_SIZE))?;
     put_unit(false, unit, out);

@@ -37,6 +37,7 @@ fn first_bytes_of<C: PayloadFormat>(codec: C, head: [u8; 2], body: &[u8]) -> [u8
 }
 
 /// Whether it is so of one of the units of an aggregate's bytes.
+#[inline(never)]
 fn holds_unit<A: Aggregate, T: UnitTest>(codec: A, bytes: &[u8], test: &T) -> bool {
     let mut rest = bytes;
     while let Some((unit, behind)) = codec.first_unit(rest) {
@@ -58,6 +59,7 @@ fn first_unit_in<A: Aggregate>(codec: A, bytes: &[u8]) -> Option<[u8; 3]> {
 
 /// Whether it is so of a unit of which a packet bears something: of a fragment that doesn't start its
 /// unit by the header alone. None is borne by a packet that is refused. It takes no memory.
+#[inline(always)]
 pub fn bears_unit<C: PacketReader, T: UnitTest>(codec: C, packet: &[u8], test: &T) -> bool {
     match codec.read(packet) {
         Ok(Parts::Whole) => test.holds(first_bytes(packet)),

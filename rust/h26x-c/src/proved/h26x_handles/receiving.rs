@@ -79,7 +79,7 @@ impl ReceivingEndpoint {
 
 /// Takes a packet, and writes units behind lengths or behind start codes. The setting of the
 /// depacketizer itself counts for nothing, and stays.
-#[inline]
+#[inline(always)]
 fn take<W: UnitSink>(
     it: &mut AnyDepacketizer,
     is_avc: bool,
@@ -87,9 +87,5 @@ fn take<W: UnitSink>(
     out: &mut W,
     extra: &mut CodecExtra,
 ) -> Result<(), PacketError> {
-    let setting = it.is_avc();
-    it.set_avc(is_avc);
-    let outcome = it.depacketize_into(packet, out, extra);
-    it.set_avc(setting);
-    outcome
+    it.depacketize_as(is_avc, packet, out, extra)
 }
