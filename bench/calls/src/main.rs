@@ -4,14 +4,14 @@
 //! calls JOB FORMAT ROUNDS [TIMES]
 //! ```
 //!
-//! A job is `packetize`, `into`, `take`, `aggregates`, `sequenced` or `assembled`, and a format `h264`, `h265` or
+//! A job is `packetize`, `units`, `into`, `take`, `aggregates`, `sequenced` or `assembled`, and a format `h264`, `h265` or
 //! `h266`. Each round does the same: a frame of 8 kB, fifty units of 100 bytes and fifty of 20 are packetized, or their
 //! packets are taken; or ten aggregates of eleven units are. With TIMES the frame is so many times as long, and there
 //! are so many times as many units and aggregates.
 
 use emupedestal::{
     AccessUnitAssembler, Codec, CodecDepacketizer, CodecExtra, CodecPacketizer, Depacketizer,
-    Packetizer, Packets, ReorderBuffer, RtpPacket, SequencedDepacketizer,
+    Packetizer, Packets, Packing, ReorderBuffer, RtpPacket, SequencedDepacketizer,
 };
 use std::env;
 use std::hint::black_box;
@@ -116,6 +116,17 @@ impl Inputs {
         }
     }
 
+    /// Every unit, in the fewest packets.
+    fn packetize_access_units(&self, packetizer: &mut CodecPacketizer) {
+        for payload in &self.payloads {
+            black_box(
+                packetizer
+                    .packetize_access_unit(Packing::Together, LIMIT, black_box(payload))
+                    .expect("memory"),
+            );
+        }
+    }
+
     fn packetize_into(&self, packetizer: &mut CodecPacketizer, packets: &mut Packets) {
         for payload in &self.payloads {
             packetizer
@@ -211,6 +222,7 @@ fn run(job: &str, inputs: &Inputs, rounds: u32) -> bool {
     for _ in 0..rounds {
         match job {
             "packetize" => inputs.packetize(&mut packetizer),
+            "units" => inputs.packetize_access_units(&mut packetizer),
             "into" => inputs.packetize_into(&mut packetizer, &mut packets),
             "take" => inputs.take(&mut depacketizer, &mut out),
             "aggregates" => inputs.take_aggregates(&mut depacketizer, &mut out),
