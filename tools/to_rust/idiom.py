@@ -13,6 +13,7 @@
 | `fn fmt<W: fmt::Write>(.., f: &mut Formatter<W>)` | `fn fmt(.., f: &mut Formatter<'_>)` | a formatter of Rust has no parameter |
 | parameters that only contracts read | with an underscore | rustc has a warning for them |
 | `inline(always)` of the functions of `UNHINTED` | nothing | the proved build gains by it, and rustc's loses |
+| that of those of `HINTED_WITH_STD` | the same, with std alone | without it each `append_bytes` is a call, and one call of theirs is cheaper |
 | examples of docs | nothing | the layer has its own, over what callers have |
 """
 
@@ -26,6 +27,8 @@ from .tree import (Function, Refused, Token, add_use, after, at, bare, bare_word
 RENAMED = {("H265AggregationPacket", "nal_units"): "try_nal_units"}
 # By crate.
 UNHINTED = {"h26x_depacketizer": "write_units"}
+# By file.
+HINTED_WITH_STD = {"h26x_depacketizer/sink.rt": "put_behind"}
 # Words of Rattle that no output may have, and of a Rust that isn't stable.
 RATTLE = {"ghost", "requires", "ensures", "prove", "prove_eq", "prove_ne", "Model", "Global",
           "HostRuntime", "allocator", "thiserror", "simd"}
@@ -158,6 +161,21 @@ def erase_hints(crate):
                 if not is_group(at(items, j), "[") or bare(items[j].items) != "inline (always)":
                     raise Refused(f"{crate}: {function.name} has no `inline(always)`, which `UNHINTED` drops")
                 return items[:before(items, j)] + items[after(items, j):]
+        return items
+
+    return change
+
+
+def hint_with_std(place):
+    """Keeps `inline(always)` with std alone, where only that inlines what is called."""
+
+    def change(items):
+        for function in functions(items):
+            if function.items is items and function.body is not None and function.name == HINTED_WITH_STD.get(place):
+                hint = at(items, before(items, function.keyword))
+                if not is_group(hint, "[") or bare(hint.items) != "inline (always)":
+                    raise Refused(f"{place}: {function.name} has no `inline(always)`, which `HINTED_WITH_STD` asks of std")
+                hint.items = parse('cfg_attr(feature = "std", inline(always))')
         return items
 
     return change

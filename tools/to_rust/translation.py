@@ -144,6 +144,7 @@ class Translation:
             items = exports.write_outputs(deep(items, exports.write_pairs))
         of_c.note(place, items, crate.exports[place])
         items = deep(items, idiom.erase_hints(crate.name))
+        items = deep(items, idiom.hint_with_std(f"{crate.name}/{place}"))
         items = deep(items, idiom.erase_examples)
         items = deep(items, idiom.put_behind_std(self.of_std))
         items = deep(items, idiom.rewrite_paths(self.module, crate.name, self.names))

@@ -16,6 +16,7 @@ impl Aggregate for H264 {
     // Empty units are skipped, and units end where a length passes the end.
     ghost units = { λ codec. stap_units };
 
+    #[inline(always)]
     fn first_unit(self, bytes: &[u8]) -> Option<(&[u8], &[u8])> {
         let mut rest = bytes;
         while rest.len() >= STAPA_NALU_LENGTH_SIZE {

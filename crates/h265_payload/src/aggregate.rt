@@ -23,6 +23,7 @@ pub struct Other<'a> {
 }
 
 /// The first of units that each stand behind DOND and their length.
+#[inline(always)]
 fn first_apart(bytes: &[u8]) -> Option<Other<'_>>
     ensures first { IfSome result (λ it. others_of true bytes.now
         ≡ other_of it.dond it.unit.now ∷ others_of true it.behind.now) }
@@ -44,6 +45,7 @@ fn first_apart(bytes: &[u8]) -> Option<Other<'_>>
 }
 
 /// The first of units that each stand behind their length alone.
+#[inline(always)]
 fn first_behind(bytes: &[u8]) -> Option<Other<'_>>
     ensures first { IfSome result (λ it. others_of false bytes.now
         ≡ other_of it.dond it.unit.now ∷ others_of false it.behind.now) }
@@ -65,6 +67,7 @@ fn first_behind(bytes: &[u8]) -> Option<Other<'_>>
 }
 
 /// The first unit of these bytes.
+#[inline(always)]
 pub fn first_other(has_donl: bool, bytes: &[u8]) -> Option<Other<'_>>
     ensures first { IfSome result (λ it. others_of has_donl bytes.now
         ≡ other_of it.dond it.unit.now ∷ others_of has_donl it.behind.now) }
@@ -86,7 +89,7 @@ impl Aggregate for H265 {
     // have DOND.
     ghost units = { λ codec. units_in codec.has_donl };
 
-    #[inline]
+    #[inline(always)]
     fn first_unit(self, bytes: &[u8]) -> Option<(&[u8], &[u8])> {
         match first_other(self.has_donl, bytes) {
             Some(it) => Some((it.unit, it.behind)),

@@ -25,6 +25,7 @@ impl Aggregate for H266 {
     // Units end where a length passes the end.
     ghost units = { λ codec. aggregate_units };
 
+    #[inline(always)]
     fn first_unit(self, bytes: &[u8]) -> Option<(&[u8], &[u8])> {
         if bytes.len() < LENGTH_SIZE {
             return None;

@@ -28,19 +28,6 @@ pub(crate) fn prefix_of(is_avc: bool, len: usize) -> [u8; 4]
     }
 }
 
-/// Writes what stands before a unit of this length, where there is room for it.
-#[inline]
-fn put_prefix<W: UnitSink>(is_avc: bool, len: usize, out: &mut W)
-    requires room { 4 ≤ W.room out.old }
-    requires fits { (is_avc && nat_le (2 ^ 32) len) ≡ false }
-    ensures written { IsWritten W.sink out.old out.new
-        (if is_avc then long_word len else 0 ∷ 0 ∷ 0 ∷ 1 ∷ []) }
-    ensures room { W.room out.old ≤ W.room out.new + 4 }
-    ensures kept_lacks { W.lacks out.new ≡ W.lacks out.old }
-{
-    out.put(&prefix_of(is_avc, len));
-}
-
 /// Whether four bytes don't hold a unit's length.
 #[inline]
 pub(crate) fn is_too_long(len: usize) -> bool
@@ -49,7 +36,8 @@ pub(crate) fn is_too_long(len: usize) -> bool
     len > u32::MAX as usize
 }
 
-/// Writes a whole unit, where there is room for it.
+/// Writes a whole unit, where there is room for it. Each form is a call of its own, so that the loop
+/// over an aggregate's units is compiled once for each.
 #[inline(always)]
 pub(crate) fn put_unit<W: UnitSink>(is_avc: bool, unit: &[u8], out: &mut W)
     requires room { 4 + length unit.now ≤ W.room out.old }
@@ -58,8 +46,11 @@ pub(crate) fn put_unit<W: UnitSink>(is_avc: bool, unit: &[u8], out: &mut W)
     ensures room { W.room out.old ≤ W.room out.new + (4 + length unit.now) }
     ensures kept_lacks { W.lacks out.new ≡ W.lacks out.old }
 {
-    put_prefix(is_avc, unit.len(), out);
-    out.put(unit);
+    if is_avc {
+        out.put_behind(prefix_of(true, unit.len()), unit);
+    } else {
+        out.put_behind(prefix_of(false, unit.len()), unit);
+    }
 }
 
 /// Writes a whole unit behind its length (ISO/IEC 14496-15).

@@ -73,4 +73,10 @@ impl<'a> UnitSink for MemorySink<'a> {
         self.to[self.len..end].copy_from_slice(bytes);
         self.len = end;
     }
+
+    #[inline(always)]
+    fn put_behind(&mut self, prefix: [u8; 4], bytes: &[u8]) {
+        self.put(&prefix);
+        self.put(bytes);
+    }
 }

@@ -1,6 +1,6 @@
 //! Where units are written.
 
-ghost use Rattle.std.specs.Prelude.{◌≡◌, ◌≤◌, ◌<◌, ◌+◌, ◌-◌, ◌^◌, ℕ, Bool, true, length, OnOk, OnErr, vec_len, vec_capacity};
+ghost use Rattle.std.specs.Prelude.{◌≡◌, ◌≤◌, ◌<◌, ◌+◌, ◌-◌, ◌^◌, ◌++◌, ℕ, Bool, true, length, OnOk, OnErr, vec_len, vec_capacity};
 ghost use Rattle.h26x_depacketizer.specs.UnitSink.{Sink, list_sink, with_written};
 
 use std::alloc::AllocError;
@@ -32,6 +32,13 @@ pub trait UnitSink {
         ensures written { sink self.new ≡ with_written (sink self.old) bytes.now }
         ensures room { room self.old ≤ room self.new + length bytes.now }
         ensures kept_lacks { lacks self.new ≡ lacks self.old };
+
+    /// Writes bytes behind a prefix of four, and both behind the others.
+    fn put_behind(&mut self, prefix: [u8; 4], bytes: &[u8])
+        requires { 4 + length bytes.now ≤ room self.old }
+        ensures written { sink self.new ≡ with_written (sink self.old) (prefix ++ bytes.now) }
+        ensures room { room self.old ≤ room self.new + (4 + length bytes.now) }
+        ensures kept_lacks { lacks self.new ≡ lacks self.old };
 }
 
 impl UnitSink for Vec<u8> {
@@ -50,5 +57,11 @@ impl UnitSink for Vec<u8> {
     #[inline(always)]
     fn put(&mut self, bytes: &[u8]) {
         self.extend_from_slice(bytes).unwrap();
+    }
+
+    #[inline(always)]
+    fn put_behind(&mut self, prefix: [u8; 4], bytes: &[u8]) {
+        self.put(&prefix);
+        self.put(bytes);
     }
 }

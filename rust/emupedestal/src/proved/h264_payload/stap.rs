@@ -7,6 +7,7 @@ use crate::proved::h26x_depacketizer::{Aggregate, PREFIX_SIZE};
 use crate::proved::h264_payload::codec::H264;
 
 impl Aggregate for H264 {
+    #[inline(always)]
     fn first_unit(self, bytes: &[u8]) -> Option<(&[u8], &[u8])> {
         let mut rest = bytes;
         while rest.len() >= STAPA_NALU_LENGTH_SIZE {

@@ -18,6 +18,7 @@ pub struct Other<'a> {
 }
 
 /// The first of units that each stand behind DOND and their length.
+#[inline(always)]
 fn first_apart(bytes: &[u8]) -> Option<Other<'_>> {
     if bytes.len() < 3 {
         return None;
@@ -33,6 +34,7 @@ fn first_apart(bytes: &[u8]) -> Option<Other<'_>> {
 }
 
 /// The first of units that each stand behind their length alone.
+#[inline(always)]
 fn first_behind(bytes: &[u8]) -> Option<Other<'_>> {
     if bytes.len() < 2 {
         return None;
@@ -48,6 +50,7 @@ fn first_behind(bytes: &[u8]) -> Option<Other<'_>> {
 }
 
 /// The first unit of these bytes.
+#[inline(always)]
 pub fn first_other(has_donl: bool, bytes: &[u8]) -> Option<Other<'_>> {
     if has_donl {
         first_apart(bytes)
@@ -57,7 +60,7 @@ pub fn first_other(has_donl: bool, bytes: &[u8]) -> Option<Other<'_>> {
 }
 
 impl Aggregate for H265 {
-    #[inline]
+    #[inline(always)]
     fn first_unit(self, bytes: &[u8]) -> Option<(&[u8], &[u8])> {
         match first_other(self.has_donl, bytes) {
             Some(it) => Some((it.unit, it.behind)),

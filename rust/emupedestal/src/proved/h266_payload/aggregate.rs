@@ -13,6 +13,7 @@ const LENGTH_SIZE: usize = 2;
 const UNIT_HEADER_SIZE: usize = 2;
 
 impl Aggregate for H266 {
+    #[inline(always)]
     fn first_unit(self, bytes: &[u8]) -> Option<(&[u8], &[u8])> {
         if bytes.len() < LENGTH_SIZE {
             return None;

@@ -20,23 +20,21 @@ pub(crate) fn prefix_of(is_avc: bool, len: usize) -> [u8; 4] {
     }
 }
 
-/// Writes what stands before a unit of this length, where there is room for it.
-#[inline]
-fn put_prefix<W: UnitSink>(is_avc: bool, len: usize, out: &mut W) {
-    out.put(&prefix_of(is_avc, len));
-}
-
 /// Whether four bytes don't hold a unit's length.
 #[inline]
 pub(crate) fn is_too_long(len: usize) -> bool {
     len > u32::MAX as usize
 }
 
-/// Writes a whole unit, where there is room for it.
+/// Writes a whole unit, where there is room for it. Each form is a call of its own, so that the loop
+/// over an aggregate's units is compiled once for each.
 #[inline(always)]
 pub(crate) fn put_unit<W: UnitSink>(is_avc: bool, unit: &[u8], out: &mut W) {
-    put_prefix(is_avc, unit.len(), out);
-    out.put(unit);
+    if is_avc {
+        out.put_behind(prefix_of(true, unit.len()), unit);
+    } else {
+        out.put_behind(prefix_of(false, unit.len()), unit);
+    }
 }
 
 /// Writes a whole unit behind its length (ISO/IEC 14496-15).

@@ -13,6 +13,9 @@ pub(crate) trait UnitSink {
 
     /// Writes bytes behind the others.
     fn put(&mut self, bytes: &[u8]);
+
+    /// Writes bytes behind a prefix of four, and both behind the others.
+    fn put_behind(&mut self, prefix: [u8; 4], bytes: &[u8]);
 }
 
 impl UnitSink for Vec<u8> {
@@ -24,5 +27,11 @@ impl UnitSink for Vec<u8> {
     #[inline(always)]
     fn put(&mut self, bytes: &[u8]) {
         self.append_bytes(bytes);
+    }
+
+    #[cfg_attr(feature = "std", inline(always))]
+    fn put_behind(&mut self, prefix: [u8; 4], bytes: &[u8]) {
+        self.put(&prefix);
+        self.put(bytes);
     }
 }
