@@ -516,29 +516,35 @@ unit_parts (unit ∷ units) is = (by (bears_nothing unit.bytes) is, refl)
     by true e = absurd (let bad = e in cc)
     by false e = refl
 
--- then that is given out, and nothing else is done
-pub first_next : (now : ℕ) (s new : Reception) (unit : Option ReceivedAccessUnitValue) → has_unit s.assembler.ended ≡ true → unit ≡ unit_given s → new ≡ without_given s → IsNext now s new unit
-first_next now s new unit is given stands =
-    let at = unit_parts s.assembler.ended is in
-    let same : without_bare s ≡ s = bare_stays s at.0 in
-    let anew : ended_if_anew s ≡ s = anew_by (has_no_unit s.assembler.ended) at.1 in
-    let over : ended_if_over s ≡ s = over_by (has_no_unit s.assembler.ended) at.1 in
-    let whole : without_bare (ended_if_over s) ≡ s = ap without_bare over ∙ same in
+-- once packets were taken until one ended with bytes, that is given out, and nothing else is done
+pub drained_next : (now : ℕ) (s t new : Reception) (unit : Option ReceivedAccessUnitValue) → IsDrained now (ended_if_anew (without_bare s)) t → has_unit t.assembler.ended ≡ true → unit ≡ unit_given t → new ≡ without_given t → IsNext now s new unit
+drained_next now s t new unit taken is given stands =
+    let at = unit_parts t.assembler.ended is in
+    let over : ended_if_over t ≡ t = over_by (has_no_unit t.assembler.ended) at.1 in
+    let whole : without_bare (ended_if_over t) ≡ t = ap without_bare over ∙ bare_stays t at.0 in
     record {
-      drained = s;
-      taken = subst (λ (r : Reception). IsDrained now r s) (sym (ap ended_if_anew same ∙ anew)) none;
+      drained = t;
+      taken = taken;
       until = λ empty. absurd (let bad = sym at.1 ∙ ap has_no_unit empty in cc);
       unit_is = given ∙ sym (ap unit_given whole);
       stands = stands ∙ sym (ap without_given whole);
     }
   where
+    over_by : (b : Bool) → b ≡ false → cond (b && t.waiting.is_over) (after_finish t) t ≡ t
+    over_by true e = absurd (let bad = e in cc)
+    over_by false e = refl
+
+-- so where one had ended before any was taken
+pub first_next : (now : ℕ) (s new : Reception) (unit : Option ReceivedAccessUnitValue) → has_unit s.assembler.ended ≡ true → unit ≡ unit_given s → new ≡ without_given s → IsNext now s new unit
+first_next now s new unit is given stands =
+    let at = unit_parts s.assembler.ended is in
+    let same : without_bare s ≡ s = bare_stays s at.0 in
+    let anew : ended_if_anew s ≡ s = anew_by (has_no_unit s.assembler.ended) at.1 in
+    drained_next now s s new unit (subst (λ (r : Reception). IsDrained now r s) (sym (ap ended_if_anew same ∙ anew)) none) is given stands
+  where
     anew_by : (b : Bool) → b ≡ false → cond (b && s.is_anew) (record s { is_anew = false; assembler = after_finishing s.assembler; framing = fresh_framing; numbers = after_last s.numbers }) s ≡ s
     anew_by true e = absurd (let bad = e in cc)
     anew_by false e = refl
-
-    over_by : (b : Bool) → b ≡ false → cond (b && s.waiting.is_over) (after_finish s) s ≡ s
-    over_by true e = absurd (let bad = e in cc)
-    over_by false e = refl
 
 -- no access unit has ended
 pub none_ended : (units : List AccessUnitValue) (has : Bool) → has ≡ not (has_no_unit units) → has ≡ false → units ≡ []

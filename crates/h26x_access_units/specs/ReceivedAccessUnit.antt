@@ -62,18 +62,23 @@ told_of d has_sets is_avc unit numbers = record {
       (unit_content is_avc unit).slice;
 }
 
--- an access unit with its numbers, as it is given out by what is known of a decoder
-abbrev pub received_unit : DecoderState → Bool → Bool → AccessUnitValue → AccessUnitNumbers →
-    ReceivedAccessUnitValue
-received_unit d has_sets is_avc unit numbers = record {
+-- an access unit with what is told of it and its numbers
+abbrev pub unit_with : Told → AccessUnitValue → AccessUnitNumbers → ReceivedAccessUnitValue
+unit_with told unit numbers = record {
   timestamp = unit.timestamp;
   bytes = unit.bytes;
   extra = unit.extra;
-  is_whole = (told_of d has_sets is_avc unit numbers).is_whole;
-  is_clean = (told_of d has_sets is_avc unit numbers).is_clean;
-  is_disposable = (told_of d has_sets is_avc unit numbers).is_disposable;
+  is_whole = told.is_whole;
+  is_clean = told.is_clean;
+  is_disposable = told.is_disposable;
   continues = numbers.continues;
   first = numbers.first;
   last = numbers.last;
   missing = numbers.missing;
 }
+
+-- as it is given out by what is known of a decoder
+abbrev pub received_unit : DecoderState → Bool → Bool → AccessUnitValue → AccessUnitNumbers →
+    ReceivedAccessUnitValue
+received_unit d has_sets is_avc unit numbers =
+    unit_with (told_of d has_sets is_avc unit numbers) unit numbers

@@ -25,7 +25,7 @@ use crate::numbers::NumbersSoFar;
 use crate::passed::PassedNumbers;
 use crate::pushed::{NotPushed, NotPushedReason, Pushed};
 use crate::short;
-use crate::unit::{self, ReceivedAccessUnit, remove_first};
+use crate::unit::{self, ReceivedAccessUnit, remove_first, told_of};
 use crate::way::Way;
 use h26x_assembler::{AccessUnit, AccessUnitAssembler, UnitsSoFar};
 use h26x_core::PacketError;
@@ -158,8 +158,7 @@ impl<D: RunDepacketizer> AccessUnitReceiver<D> {
             StaysWithinLimits (length packet.now.1.payload) (r self.old) (r self.new) }
     {
         if self.takes_at_once(packet) {
-            self.take_at_once(packet)?;
-            return Ok(Pushed::Held);
+            return self.take_at_once(packet);
         }
         self.push_aside(now, packet)
     }
@@ -183,6 +182,10 @@ impl<D: RunDepacketizer> AccessUnitReceiver<D> {
             Way::Ahead => return self.push_ahead(now, packet),
             Way::Window => self.waiting.push(now, packet)?,
         };
+        // Most wait, and of these none is counted.
+        if let Pushed::Held = pushed {
+            return Ok(Pushed::Held);
+        }
         self.counts.push(pushed);
         Ok(pushed)
     }
@@ -228,11 +231,13 @@ impl<D: RunDepacketizer> AccessUnitReceiver<D> {
         none_ended && !self.is_anew
     }
 
-    /// Takes a packet at once, which waits no more than one that is due.
-    #[inline(always)]
-    fn take_at_once(&mut self, packet: &RtpPacket<'_>) -> Result<(), PacketError>
+    /// Takes a packet at once, which waits no more than one that is due. It is compiled apart, so that
+    /// one that waits saves no registers for it.
+    #[inline(never)]
+    fn take_at_once(&mut self, packet: &RtpPacket<'_>) -> Result<Pushed, PacketError>
         requires { let r = ⟦<Self as Receives>⟧.reception in
             is_taken_at_once (r self.old) packet.now ≡ true }
+        ensures answer { IfOk result (λ answer. answer ≡ Pushed.Held) }
         ensures held { let r = ⟦<Self as Receives>⟧.reception in
             reception_answer (r self.old) packet.now ≡ Pushed.Held }
         ensures taken { let r = ⟦<Self as Receives>⟧.reception in
@@ -255,7 +260,7 @@ impl<D: RunDepacketizer> AccessUnitReceiver<D> {
         }
         self.waiting.pass(sequence);
         self.passed.take(sequence, sequence);
-        Ok(())
+        Ok(Pushed::Held)
     }
 
     /// So of one that has memory of its own, which is kept for another one.
@@ -271,9 +276,9 @@ impl<D: RunDepacketizer> AccessUnitReceiver<D> {
             OnErr result (r self.new ≡ r self.old) }
     {
         match self.take_at_once(&packet.packet()) {
-            Ok(()) => {
+            Ok(pushed) => {
                 self.waiting.give_back(packet);
-                Ok(Pushed::Held)
+                Ok(pushed)
             }
             Err(_) => Err(NotPushed {
                 packet,
@@ -283,6 +288,8 @@ impl<D: RunDepacketizer> AccessUnitReceiver<D> {
     }
 
     /// Takes a packet that is too far from the one that is due.
+    #[cold]
+    #[inline(never)]
     fn push_far(&mut self, now: u32, packet: &RtpPacket<'_>) -> Result<Pushed, PacketError>
         requires { let r = ⟦<Self as Receives>⟧.reception in
             way_of (r self.old) packet.now.0 ≡ Way.Far }
@@ -332,6 +339,8 @@ impl<D: RunDepacketizer> AccessUnitReceiver<D> {
     }
 
     /// Takes a packet that is more than a window ahead.
+    #[cold]
+    #[inline(never)]
     fn push_ahead(&mut self, now: u32, packet: &RtpPacket<'_>) -> Result<Pushed, PacketError>
         requires ahead { let r = ⟦<Self as Receives>⟧.reception in
             way_of (r self.old) packet.now.0 ≡ Way.Ahead }
@@ -711,16 +720,14 @@ impl<D: RunDepacketizer> AccessUnitReceiver<D> {
         ensures after { let r = ⟦<Self as Receives>⟧.reception in
             r self.new ≡ without_given (r self.old) }
     {
-        if self.ended.is_empty() {
-            return None;
-        }
-        let unit = remove_first(&mut self.ended);
+        let first = self.ended.first()?;
         let numbers = self.numbers.give();
         let is_avc = self.assembler.packets.depacketizer.is_avc();
         let has_sets = self.waiting.config().has_sets;
-        let unit = ReceivedAccessUnit::of(&mut self.decoder, has_sets, is_avc, unit, numbers);
-        self.counts.unit(unit.is_whole);
-        Some(unit)
+        let told = told_of(&mut self.decoder, has_sets, is_avc, first, numbers);
+        self.counts.unit(told.is_whole);
+        let unit = remove_first(&mut self.ended);
+        Some(ReceivedAccessUnit::with(told, unit, numbers))
     }
 
     /// The next access unit, if one has ended at this tick: takes packets that are due until one ends.
@@ -787,6 +794,9 @@ impl<D: RunDepacketizer> AccessUnitReceiver<D> {
             StaysWithinLimits 0 (r self.old) (r self.new) }
     {
         let _ = self.step_due(now)?;
+        if self.has_unit() {
+            return Ok(self.give());
+        }
         self.drain(now)?;
         self.end_if_over()?;
         let _ = self.drop_bare();

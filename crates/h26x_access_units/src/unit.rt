@@ -2,7 +2,7 @@
 
 ghost use Rattle.std.specs.Prelude.{◌≡◌, ◌<◌, vec_len, slice_index_or, remove};
 ghost use Rattle.h26x_assembler.specs.AccessUnit.{access_unit_value};
-ghost use Rattle.h26x_access_units.specs.ReceivedAccessUnit.{received_unit_value, received_unit, decoder_with, told_of};
+ghost use Rattle.h26x_access_units.specs.ReceivedAccessUnit.{received_unit_value, unit_with, decoder_with, told_of};
 
 use crate::content::{content_of, plain_slice};
 use crate::decoder::DecoderState;
@@ -75,8 +75,8 @@ pub(crate) fn pass(
 
 /// What is told of an access unit by what is known of a decoder.
 #[derive(Clone, Copy)]
-struct Told {
-    is_whole: bool,
+pub(crate) struct Told {
+    pub is_whole: bool,
     is_clean: bool,
     is_disposable: bool,
 }
@@ -107,7 +107,7 @@ fn told_of_any(
 
 /// So, with less work where it follows the one before and begins with a slice of no keyframe.
 #[inline]
-fn told_of(
+pub(crate) fn told_of(
     decoder: &mut DecoderState,
     has_sets: bool,
     is_avc: bool,
@@ -131,21 +131,11 @@ fn told_of(
 }
 
 impl ReceivedAccessUnit {
-    /// An access unit with its numbers, by what is known of a decoder, and then with it.
+    /// An access unit with what is told of it and its numbers.
     #[inline]
-    pub(crate) fn of(
-        decoder: &mut DecoderState,
-        has_sets: bool,
-        is_avc: bool,
-        unit: AccessUnit,
-        numbers: AccessUnitNumbers,
-    ) -> Self
-        ensures unit { received_unit_value result
-            ≡ received_unit decoder.old has_sets is_avc (access_unit_value unit) numbers }
-        ensures decoder { decoder.new
-            ≡ decoder_with decoder.old has_sets is_avc (access_unit_value unit) numbers }
+    pub(crate) fn with(told: Told, unit: AccessUnit, numbers: AccessUnitNumbers) -> Self
+        ensures { received_unit_value result ≡ unit_with told (access_unit_value unit) numbers }
     {
-        let told = told_of(decoder, has_sets, is_avc, &unit, numbers);
         ReceivedAccessUnit {
             timestamp: unit.timestamp,
             bytes: unit.bytes,

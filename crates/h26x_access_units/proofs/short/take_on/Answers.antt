@@ -1,10 +1,10 @@
-use Rattle.std.proofs.Common.{◌≡◌, ◌∙◌, ap, sym, subst, ℕ, List, false, Ok, Err}
+use Rattle.std.proofs.Common.{◌≡◌, ◌∙◌, ap, sym, subst, ℕ, false, Ok, Err}
 use Rattle.h26x_reorder.specs.Rtp.{RtpBody}
 use Rattle.h26x_assembler.specs.declared.assembler.AccessUnitAssembler.{AccessUnitAssembler}
 use Rattle.h26x_assembler.specs.Assembler.{assembly_at}
 use Rattle.h26x_assembler.specs.AccessUnit.{Assembly, is_text_given_up}
 use Rattle.h26x_access_units.specs.declared.framing.Framing.{Framing}
-use Rattle.h26x_access_units.specs.Reception.{marker_forgotten, assembly_after, lacks_memory, begun_for, framing_of, believed, IsAnswerTo, framing_answered, numbers_answered, counts_answered}
+use Rattle.h26x_access_units.specs.Reception.{marker_forgotten, assembly_after, lacks_memory, IsAnswerTo, framing_answered, numbers_answered, counts_answered}
 use Rattle.h26x_access_units.proofs.ReceptionLemmas.{counts_as}
 use Rattle.h26x_access_units.proofs.ShortLemmas.{is_on, on_as, answer_as, at_not_still, none_unbelieved, in_order_framing, in_order_numbers, in_order_counts}
 use Rattle.h26x_access_units.proofs.short.take_on.Goals as goal

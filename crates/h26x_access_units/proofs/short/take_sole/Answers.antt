@@ -7,7 +7,7 @@ use Rattle.h26x_assembler.specs.Assembler.{assembly_at}
 use Rattle.h26x_assembler.specs.AccessUnit.{Assembly, is_text_given_up}
 use Rattle.h26x_access_units.specs.declared.framing.Framing.{Framing}
 use Rattle.h26x_access_units.specs.Numbers.{numbers_after, numbers_still}
-use Rattle.h26x_access_units.specs.Reception.{lacks_memory, begun_for, assembly_after, marker_forgotten, framing_of, believed, IsAnswerTo, framing_answered, numbers_answered, counts_answered}
+use Rattle.h26x_access_units.specs.Reception.{lacks_memory, assembly_after, marker_forgotten, IsAnswerTo, framing_answered, numbers_answered, counts_answered}
 use Rattle.h26x_access_units.proofs.ReceptionLemmas.{counts_as, taken_as}
 use Rattle.h26x_access_units.proofs.ShortLemmas.{sole, sole_as, with_slice, answer_as, sole_not_still, none_unbelieved, in_order_framing, in_order_numbers, in_order_counts}
 use Rattle.h26x_access_units.proofs.short.take_sole.Goals as goal

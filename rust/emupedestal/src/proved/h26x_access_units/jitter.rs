@@ -422,9 +422,12 @@ impl JitterBuffer {
     }
 
     /// Whether a packet is due at this tick.
-    #[inline]
+    #[inline(always)]
     pub(crate) fn has_due(&self, now: u32) -> bool {
-        !self.is_empty() && self.first_due(now).is_some()
+        match self.buffer.first() {
+            Some(first) => self.buffer.may_go(first.sequence) || self.is_pressed(now),
+            None => false,
+        }
     }
 
     /// Whether the stream has ended.

@@ -15,7 +15,7 @@ use crate::proved::h26x_access_units::numbers::NumbersSoFar;
 use crate::proved::h26x_access_units::passed::PassedNumbers;
 use crate::proved::h26x_access_units::pushed::{NotPushed, NotPushedReason, Pushed};
 use crate::proved::h26x_access_units::short;
-use crate::proved::h26x_access_units::unit::{self, ReceivedAccessUnit, remove_first};
+use crate::proved::h26x_access_units::unit::{self, ReceivedAccessUnit, remove_first, told_of};
 use crate::proved::h26x_access_units::way::Way;
 use crate::proved::h26x_assembler::{AccessUnit, AccessUnitAssembler, UnitsSoFar};
 use crate::proved::h26x_core::PacketError;
@@ -101,8 +101,7 @@ impl<D: RunDepacketizer> AccessUnitReceiver<D> {
     #[inline(always)]
     pub fn try_push(&mut self, now: u32, packet: &RtpPacket<'_>) -> Result<Pushed, PacketError> {
         if self.takes_at_once(packet) {
-            self.take_at_once(packet)?;
-            return Ok(Pushed::Held);
+            return self.take_at_once(packet);
         }
         self.push_aside(now, packet)
     }
@@ -116,6 +115,10 @@ impl<D: RunDepacketizer> AccessUnitReceiver<D> {
             Way::Ahead => return self.push_ahead(now, packet),
             Way::Window => self.waiting.try_push(now, packet)?,
         };
+        // Most wait, and of these none is counted.
+        if let Pushed::Held = pushed {
+            return Ok(Pushed::Held);
+        }
         self.counts.try_push(pushed);
         Ok(pushed)
     }
@@ -154,9 +157,10 @@ impl<D: RunDepacketizer> AccessUnitReceiver<D> {
         none_ended && !self.is_anew
     }
 
-    /// Takes a packet at once, which waits no more than one that is due.
-    #[inline(always)]
-    fn take_at_once(&mut self, packet: &RtpPacket<'_>) -> Result<(), PacketError> {
+    /// Takes a packet at once, which waits no more than one that is due. It is compiled apart, so that
+    /// one that waits saves no registers for it.
+    #[inline(never)]
+    fn take_at_once(&mut self, packet: &RtpPacket<'_>) -> Result<Pushed, PacketError> {
         let sequence = packet.sequence;
         let received = short::take_due(
             &mut self.assembler,
@@ -171,15 +175,15 @@ impl<D: RunDepacketizer> AccessUnitReceiver<D> {
         }
         self.waiting.pass(sequence);
         self.passed.take(sequence, sequence);
-        Ok(())
+        Ok(Pushed::Held)
     }
 
     /// So of one that has memory of its own, which is kept for another one.
     fn take_held_at_once(&mut self, packet: HeldPacket) -> Result<Pushed, NotPushed> {
         match self.take_at_once(&packet.packet()) {
-            Ok(()) => {
+            Ok(pushed) => {
                 self.waiting.give_back(packet);
-                Ok(Pushed::Held)
+                Ok(pushed)
             }
             Err(_) => Err(NotPushed {
                 packet,
@@ -189,6 +193,8 @@ impl<D: RunDepacketizer> AccessUnitReceiver<D> {
     }
 
     /// Takes a packet that is too far from the one that is due.
+    #[cold]
+    #[inline(never)]
     fn push_far(&mut self, now: u32, packet: &RtpPacket<'_>) -> Result<Pushed, PacketError> {
         match &self.stray {
             Some(stray) if packet.sequence == stray.sequence.wrapping_add(1) => {
@@ -219,6 +225,8 @@ impl<D: RunDepacketizer> AccessUnitReceiver<D> {
     }
 
     /// Takes a packet that is more than a window ahead.
+    #[cold]
+    #[inline(never)]
     fn push_ahead(&mut self, now: u32, packet: &RtpPacket<'_>) -> Result<Pushed, PacketError> {
         match &self.stray {
             Some(stray) if self.waiting.is_near(stray.sequence, packet.sequence) => {
@@ -447,16 +455,14 @@ impl<D: RunDepacketizer> AccessUnitReceiver<D> {
     /// Gives out the first access unit that ended.
     #[inline(never)]
     fn give(&mut self) -> Option<ReceivedAccessUnit> {
-        if self.ended.is_empty() {
-            return None;
-        }
-        let unit = remove_first(&mut self.ended);
+        let first = self.ended.first()?;
         let numbers = self.numbers.give();
         let is_avc = self.assembler.packets.depacketizer.is_avc();
         let has_sets = self.waiting.config().has_sets;
-        let unit = ReceivedAccessUnit::of(&mut self.decoder, has_sets, is_avc, unit, numbers);
-        self.counts.unit(unit.is_whole);
-        Some(unit)
+        let told = told_of(&mut self.decoder, has_sets, is_avc, first, numbers);
+        self.counts.unit(told.is_whole);
+        let unit = remove_first(&mut self.ended);
+        Some(ReceivedAccessUnit::with(told, unit, numbers))
     }
 
     /// The next access unit, if one has ended at this tick: takes packets that are due until one ends.
@@ -497,6 +503,9 @@ impl<D: RunDepacketizer> AccessUnitReceiver<D> {
     #[inline(never)]
     fn next_due(&mut self, now: u32) -> Result<Option<ReceivedAccessUnit>, PacketError> {
         let _ = self.step_due(now)?;
+        if self.has_unit() {
+            return Ok(self.give());
+        }
         self.drain(now)?;
         self.end_if_over()?;
         let _ = self.drop_bare();

@@ -86,8 +86,8 @@ pub(crate) fn pass(
 
 /// What is told of an access unit by what is known of a decoder.
 #[derive(Clone, Copy)]
-struct Told {
-    is_whole: bool,
+pub(crate) struct Told {
+    pub is_whole: bool,
     is_clean: bool,
     is_disposable: bool,
 }
@@ -114,7 +114,7 @@ fn told_of_any(
 
 /// So, with less work where it follows the one before and begins with a slice of no keyframe.
 #[inline]
-fn told_of(
+pub(crate) fn told_of(
     decoder: &mut DecoderState,
     has_sets: bool,
     is_avc: bool,
@@ -134,16 +134,9 @@ fn told_of(
 }
 
 impl ReceivedAccessUnit {
-    /// An access unit with its numbers, by what is known of a decoder, and then with it.
+    /// An access unit with what is told of it and its numbers.
     #[inline]
-    pub(crate) fn of(
-        decoder: &mut DecoderState,
-        has_sets: bool,
-        is_avc: bool,
-        unit: AccessUnit,
-        numbers: AccessUnitNumbers,
-    ) -> Self {
-        let told = told_of(decoder, has_sets, is_avc, &unit, numbers);
+    pub(crate) fn with(told: Told, unit: AccessUnit, numbers: AccessUnitNumbers) -> Self {
         ReceivedAccessUnit {
             timestamp: unit.timestamp,
             bytes: unit.bytes,

@@ -1,12 +1,27 @@
-use Rattle.std.proofs.Common.{rules, ◌∙◌, ap, sym, subst, map, inr}
+use Rattle.std.proofs.Common.{rules, ◌≡◌, ◌∙◌, ap, sym, subst, map, inr, true}
 use Rattle.std.specs.Option.{option_map}
 use Rattle.h26x_reorder.specs.ReorderBuffer.{numbered_packet}
 use Rattle.h26x_assembler.specs.AccessUnit.{access_unit_value, open_assembly}
-use Rattle.h26x_access_units.specs.Reception.{Reception, reception, unit_given, without_given, without_bare, IsDrained, IsDrainedInPart}
-use Rattle.h26x_access_units.specs.Limits.{IsWithinLimits}
-use Rattle.h26x_access_units.proofs.ReceptionLemmas.{drained_on, nothing_ended, nothing_first, none_more, step_in_part, stepped}
+use Rattle.h26x_access_units.specs.Reception.{Reception, reception, has_unit, unit_given, without_given, without_bare, IsDrained, IsDrainedInPart}
+use Rattle.h26x_access_units.proofs.ReceptionLemmas.{drained_next, drained_on, nothing_ended, nothing_first, none_more, step_in_part, stepped}
 use Rattle.h26x_access_units.proofs.LimitLemmas.{left_within, next_within}
 use Rattle.h26x_access_units.proofs.receiver.AccessUnitReceiver.next_due.Goals as goal
+
+pub returns-then-has_unit-clause-next : goal.returns-then-has_unit-clause-next
+returns-then-has_unit-clause-next g c =
+    let old = c.args.self.now in
+    let mid = c.step_due.new.self in
+    let s = reception old.waiting (option_map numbered_packet old.stray) old.is_anew old.passed (open_assembly (g.D.RunDepacketizer.state old.assembler.packets.depacketizer) old.assembler.packets.expected old.assembler.unit (map access_unit_value old.ended.items)) old.framing old.numbers old.decoder old.counts old.assembler.packets.run_limit old.assembler.unit_limit in
+    let stepping = reception mid.waiting (option_map numbered_packet mid.stray) mid.is_anew mid.passed (open_assembly (g.D.RunDepacketizer.state mid.assembler.packets.depacketizer) mid.assembler.packets.expected mid.assembler.unit (map access_unit_value mid.ended.items)) mid.framing mid.numbers mid.decoder mid.counts mid.assembler.packets.run_limit mid.assembler.unit_limit in
+    let one : IsDrained c.args.now s stepping = stepped c.args.now s stepping c.in_ok-step_due.field-0 c.requires.left c.in_ok-step_due.ensures.step in
+    let has : has_unit stepping.assembler.ended ≡ true = search rules in
+    drained_next c.args.now s stepping _ _ (subst (λ (t : Reception). IsDrained c.args.now t stepping) (sym (nothing_first s c.requires.left)) one) has c.give.ensures.unit c.give.ensures.after
+
+pub returns-then-has_unit-clause-bounded : goal.returns-then-has_unit-clause-bounded
+returns-then-has_unit-clause-bounded g c =
+    let old = c.args.self.now in
+    let s = reception old.waiting (option_map numbered_packet old.stray) old.is_anew old.passed (open_assembly (g.D.RunDepacketizer.state old.assembler.packets.depacketizer) old.assembler.packets.expected old.assembler.unit (map access_unit_value old.ended.items)) old.framing old.numbers old.decoder old.counts old.assembler.packets.run_limit old.assembler.unit_limit in
+    λ most small at. next_within most c.args.now s _ _ (returns-then-has_unit-clause-next g c) at
 
 pub returns-clause-next : goal.returns-clause-next
 returns-clause-next g c =
@@ -21,8 +36,8 @@ returns-clause-next g c =
       drained = drained;
       taken = subst (λ (t : Reception). IsDrained c.args.now t drained) (sym (nothing_first s c.requires.left)) (drained_on c.args.now s stepping drained one c.drain.ensures.drained);
       until = c.in_ok-drain.ensures.until;
-      unit_is = c.give.ensures.unit ∙ ap unit_given (c.drop_bare.ensures.after ∙ ap without_bare c.in_ok-end_if_over.ensures.ended);
-      stands = c.give.ensures.after ∙ ap without_given (c.drop_bare.ensures.after ∙ ap without_bare c.in_ok-end_if_over.ensures.ended);
+      unit_is = c.give-2.ensures.unit ∙ ap unit_given (c.drop_bare.ensures.after ∙ ap without_bare c.in_ok-end_if_over.ensures.ended);
+      stands = c.give-2.ensures.after ∙ ap without_given (c.drop_bare.ensures.after ∙ ap without_bare c.in_ok-end_if_over.ensures.ended);
     }
 
 pub returns-clause-bounded : goal.returns-clause-bounded
