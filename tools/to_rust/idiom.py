@@ -13,7 +13,7 @@
 | `fn fmt<W: fmt::Write>(.., f: &mut Formatter<W>)` | `fn fmt(.., f: &mut Formatter<'_>)` | a formatter of Rust has no parameter |
 | parameters that only contracts read | with an underscore | rustc has a warning for them |
 | `inline(always)` of the functions of `UNHINTED` | nothing | the proved build gains by it, and rustc's loses |
-| that of those of `HINTED_WITH_STD` | the same, with std alone | without it each `append_bytes` is a call, and one call of theirs is cheaper |
+| `inline(always)` of the functions of `HINTED_WITH_STD` | the same, with std alone | without std each `append_bytes` in them is a call, so one call of the function is cheaper |
 | examples of docs | nothing | the layer has its own, over what callers have |
 """
 
@@ -167,7 +167,7 @@ def erase_hints(crate):
 
 
 def hint_with_std(place):
-    """Keeps `inline(always)` with std alone, where only that inlines what is called."""
+    """Keeps `inline(always)` with std alone, since what is called there is inlined with std only."""
 
     def change(items):
         for function in functions(items):
