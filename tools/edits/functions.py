@@ -152,19 +152,20 @@ def head_of(lines, at):
 
 
 def name_of_impl(head):
-    """How the prover names an impl: by its type, behind which its trait stands, or where it is of a
-    generic type with one argument, and no trait's, the argument."""
+    """How the prover names an impl: by its type, behind which the one argument stands that it may
+    have, and its trait."""
     head = re.sub(r"^(unsafe )?impl\s*", "", head)
     is_whole = not head.startswith("<")
     if not is_whole:
         head = head[closing(head) + 1 :].strip()
     head = re.split(r"\bwhere\b|\{", head)[0].strip()
     trait, has_trait, type_of = parted_at_for(head)
+    found = re.fullmatch(r"[^<]*<(\w+)>", type_of if has_trait else head) if is_whole else None
+    argument = found[1] if found else ""
     if not has_trait:
-        argument = re.fullmatch(r"[^<]*<(\w+)>", head) if is_whole else None
-        return TYPE.match(head)[1] + (f"+{argument[1]}" if argument else "")
+        return TYPE.match(head)[1] + (f"+{argument}" if argument else "")
     its = TYPE.match(type_of)[1]
-    return its[0].upper() + its[1:] + words_of(trait)
+    return its[0].upper() + its[1:] + argument[:1].upper() + argument[1:] + words_of(trait)
 
 
 def closing(text):
