@@ -5,7 +5,7 @@ use Rattle.std.specs.Borrow.{Bor}
 use Rattle.h26x_model.specs.Payload.Format.{Format, IsLimit, donl_len, fragment_header_len}
 use Rattle.h26x_model.specs.Send.Calls.{packet_limit}
 use Rattle.std.specs.Prelude.{Option, Some, None, nat_lt, nat_le}
-use Rattle.std.proofs.lemmas.List.{append-nil}
+use Rattle.std.proofs.lemmas.List.{append-nil, take_all, length-drop, nil_from_length}
 use Rattle.std.proofs.lemmas.List.Concat.{flat_map-append}
 use Rattle.std.proofs.lemmas.Bool.Decides.{nat_tests}
 use Rattle.h26x_model.specs.Send.Plan.{Item, item_units, is_dropped, fits_one_packet}
@@ -52,6 +52,15 @@ every_more f bytes share limit n m next k units group behind x y z split is_grou
     let items : every_unit f share limit (lent_units units) ≡ units_items limit (lent_units group) ++ every_unit f share limit (lent_units behind) =
     ap (flat_map (units_items limit)) split ∙ rw (v, w) refl in
     rw items (sends_then f bytes n m next (units_items limit (lent_units group)) (every_unit f share limit (lent_units behind)) x y z here later)
+
+-- of units that are one group this group is sent
+pub one_group : (f : Format) (share : List ℕ → Bool) (limit k : ℕ) (units : List (List ℕ)) →
+    groups_of (go_together f share limit) units ≡ take k units ∷ groups_of (go_together f share limit) (drop k units) → k ≡ length units → every_unit f share limit units ≡ units_items limit units
+one_group f share limit k units split all =
+    let l = length-drop k units in
+    let whole : take k units ≡ units = take_all k units (omega (arith, all)) in
+    let none : drop k units ≡ [] = nil_from_length (drop k units) (omega (arith, l, all)) in
+    ap (flat_map (units_items limit)) split ∙ rw (whole, none) (append-nil (units_items limit units))
 
 -- items that send some units, and then others
 count_append : (a b : List Item) → unit_count (a ++ b) ≡ unit_count a + unit_count b

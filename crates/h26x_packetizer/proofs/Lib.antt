@@ -2,7 +2,6 @@ pub mod FragmentLemmas
 pub mod SendLemmas
 pub mod EveryLemmas
 pub mod GroupLemmas
-pub mod TogetherLemmas
 pub mod HeldLemmas
 pub mod BufferLemmas
 pub mod PieceLemmas

@@ -1,11 +1,9 @@
 -- How many units go in one packet, by the room that is left.
 use Rattle.std.specs.Prelude.{ℕ, ◌+◌, ◌-◌, ◌≤◌, suc, nat_le, nat_lt, Bool, true, false, ◌&&◌, if◌then◌else◌, List, [], ◌∷◌, ◌++◌, length, map}
-use Rattle.std.specs.List.{AllByRecursion, list_all}
+use Rattle.std.specs.List.{AllByRecursion}
 use Rattle.std.specs.Borrow.{Bor}
 use Rattle.h26x_core.specs.Pieces.{piece}
 use Rattle.h26x_model.specs.Payload.Format.{Format}
-use Rattle.h26x_model.specs.Send.Every.{sum_fits}
-use Rattle.h26x_model.specs.Send.Plan.{fits_one_packet}
 use Rattle.h26x_packetizer.specs.declared.packing.Packing.{Packing}
 use Rattle.h26x_packetizer.specs.declared.packing.Packing.TheVariants as p
 
@@ -30,14 +28,6 @@ abbrev pub fitting : (List ℕ → Bool) → ℕ → ℕ → List (List ℕ) →
 fitting share each room [] = 0
 fitting share each room (unit ∷ units) = if share unit && fits_room each room unit
     then suc (fitting share each (room - (each + length unit)) units) else 0
-
--- whether units go in one packet: one whole, or several together, which may share it and fit by
--- their sum; no units take none
-abbrev pub fit_together : Format → (List ℕ → Bool) → ℕ → ℕ → ℕ → List (List ℕ) → Bool
-fit_together f share start each limit [] = true
-fit_together f share start each limit (unit ∷ []) = fits_one_packet f limit unit
-fit_together f share start each limit (unit ∷ other ∷ units) =
-    list_all share (unit ∷ other ∷ units) && sum_fits start each limit (unit ∷ other ∷ units)
 
 -- units behind their lengths, the first also behind these bytes, and each other behind those
 abbrev pub behind_leads : List ℕ → List ℕ → List (List ℕ) → List ℕ

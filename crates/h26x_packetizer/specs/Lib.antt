@@ -2,6 +2,7 @@ pub mod Buffer
 pub mod BufferLoan
 pub mod EveryView
 pub mod Group
+pub mod InOne
 pub mod PacketizerView
 pub mod Placement
 pub mod Refusal

@@ -6,6 +6,8 @@ ghost use Rattle.h26x_model.specs.Payload.Format.{IsLimit};
 ghost use Rattle.h26x_model.specs.Send.Every.{AreSendable, every_unit, units_items, with_own_aggregates};
 ghost use Rattle.h26x_packetizer.specs.Sending.{ArePushed};
 ghost use Rattle.h26x_packetizer.specs.Group.{lent_units, may_share, HaveHeaders};
+ghost use Rattle.h26x_packetizer.specs.InOne.{GoInOne};
+ghost use Rattle.h26x_packetizer.specs.declared.packing.Packing.{Packing};
 
 use crate::body::Body;
 use crate::every_format::EveryFormat;
@@ -19,6 +21,7 @@ use h26x_model::laws;
 use std::alloc::AllocError;
 
 /// Appends an aggregate of units.
+#[inline(always)]
 fn push_together<'a, C: EveryFormat, S: PacketSink<'a>>(
     codec: C,
     don: u16,
@@ -43,6 +46,7 @@ fn push_together<'a, C: EveryFormat, S: PacketSink<'a>>(
 }
 
 /// Appends the packets of a group of units; the next number.
+#[inline(always)]
 fn push_group<'a, C: EveryFormat, S: PacketSink<'a>>(
     codec: C,
     limit: usize,
@@ -64,6 +68,33 @@ fn push_group<'a, C: EveryFormat, S: PacketSink<'a>>(
     }
     push_together(codec, don, units, made)?;
     Ok(don.wrapping_add((units.len() % 65536) as u16))
+}
+
+/// Appends the packet of units that are known to go in one, as [`push_units`] does: none is looked at
+/// again to tell how many go.
+#[inline(always)]
+pub(crate) fn push_in_one<'a, C: EveryFormat, S: PacketSink<'a>>(
+    codec: C,
+    limit: usize,
+    don: u16,
+    units: &'a [&'a [u8]],
+    made: &mut S,
+) -> Result<u16, PacketError>
+    requires limit { IsLimit (C.format codec) limit }
+    requires some { 1 ≤ length units.now }
+    requires whole { HaveHeaders (C.format codec) (lent_units units.now) }
+    requires sendable { AreSendable (C.format codec) limit (lent_units units.now) }
+    ensures sent { (packing : Packing) → GoInOne (C.format codec) packing (C.is_slice codec)
+        (C.start codec) (C.each codec) limit (lent_units units.now) → IfOk result (λ next.
+        ArePushed (with_own_aggregates (C.format codec) (C.aggregate codec)) don
+        (every_unit (with_own_aggregates (C.format codec) (C.aggregate codec))
+        (may_share packing (C.is_slice codec)) limit (lent_units units.now))
+        (S.packets made.old) (S.packets made.new) next) }
+    ensures before { S.before made.new ≡ S.before made.old }
+    ensures memory { OnErr result (result ≡ Err PacketError.OutOfMemory) }
+{
+    laws::donl_has_two_bytes();
+    push_group(codec, limit, don, units, made)
 }
 
 /// Appends the packets of units, in order, none of them left out; the next number.

@@ -1,6 +1,6 @@
 //! Packets of units, none of which is left out.
 
-ghost use Rattle.std.specs.Prelude.{◌≡◌, ◌++◌, [], Some, None, OnOk, OnErr, IfOk, IsOk, Err};
+ghost use Rattle.std.specs.Prelude.{◌≡◌, ◌++◌, [], true, Some, None, is_some, IfSome, OnOk, OnErr, IfOk, IsOk, Err};
 ghost use Rattle.h26x_model.specs.Send.Limit.{AreWithinLimit};
 ghost use Rattle.h26x_packetizer.specs.Sending.{contents};
 ghost use Rattle.h26x_packetizer.specs.Buffer.{with_packets, with_memory, IsMemoryWith};
@@ -11,15 +11,16 @@ ghost use Rattle.h26x_packetizer.specs.PacketizerView.{IsPacketizerView, limit_o
 ghost use Rattle.h26x_packetizer.specs.EveryView.{every_packets, view_after_units};
 
 use crate::buffer::{Appending, PacketBuffer};
-use crate::every::push_units;
+use crate::every::{push_in_one, push_units};
 use crate::every_format::EveryFormat;
-use crate::group::fit_together;
+use crate::group::go_in_one;
 use crate::packet_parts::{OnePacket, PacketParts};
 use crate::packetizer::PayloadPacketizer;
 use crate::packing::Packing;
 use crate::placement::{PacketsSize, Placement, place, size_of};
 use crate::refusal::{RefusedUnit, units_refusal};
 use crate::sink::PacketSink;
+use crate::units::fits_one;
 use std::alloc::AllocError;
 
 /// Why units are refused. A refused call changes nothing.
@@ -76,6 +77,37 @@ impl<C: EveryFormat> PayloadPacketizer<C> {
                 Ok(next_don)
             }
             Err(_) => Err(EveryUnitError::OutOfMemory),
+        }
+    }
+
+    /// Appends the packet of several units that all can go, and in one; the next number. `None` where
+    /// they don't: then it isn't said what can't go.
+    #[inline(always)]
+    fn prepare_in_one<'a, S: PacketSink<'a>>(
+        &self,
+        packing: Packing,
+        mtu: usize,
+        units: &'a [&'a [u8]],
+        made: &mut S,
+    ) -> Option<u16>
+        ensures packets { IfSome result (λ it. S.packets made.new ≡ S.packets made.old
+            ++ every_packets C.format C.aggregate (may_share packing (C.is_slice self.now.codec))
+            self.now mtu (lent_units units.now)) }
+        ensures after { IfSome result (λ it. (record self.now { next_don = it })
+            ≡ view_after_units C.format self.now (lent_units units.now)) }
+        ensures is { IfSome result (λ it.
+            IsPacketizerView C.format (record self.now { next_don = it })) }
+        ensures go { is_some result ≡ true → units_refusal (C.format self.now.codec) packing
+            (limit_of C.format self.now mtu) 0 (lent_units units.now) ≡ None }
+    {
+        let limit = self.limit(mtu);
+        if !go_in_one(self.codec, packing, limit, units) {
+            return None;
+        }
+        match push_in_one(self.codec, limit, self.next_don, units, made) {
+            Ok(next_don) if self.codec.has_donl() => Some(next_don),
+            Ok(_) => Some(self.next_don),
+            Err(_) => None,
         }
     }
 
@@ -185,7 +217,8 @@ impl<C: EveryFormat> PayloadPacketizer<C> {
         Ok(size_of(&made, headroom))
     }
 
-    /// Copies the packets of units to memory where they fit; the next number.
+    /// Copies the packets of units to memory where they fit; the next number. One packet is placed
+    /// without a list of packets.
     fn prepare_units_placed<'a>(
         &self,
         packing: Packing,
@@ -210,10 +243,14 @@ impl<C: EveryFormat> PayloadPacketizer<C> {
             (limit_of C.format self.now mtu) 0 (lent_units units.now) ≡ None →
             OnErr result (result ≡ Err EveryUnitError.OutOfMemory) }
     {
-        if fit_together(self.codec, packing, self.limit(mtu), units) {
-            let mut made = OnePacket::new();
-            if let Ok(next_don) = self.prepare_units(packing, mtu, units, &mut made) {
-                return Ok((place(made.as_slice(), headroom, to, ends), next_don));
+        let mut aggregate = OnePacket::new();
+        if let Some(next_don) = self.prepare_in_one(packing, mtu, units, &mut aggregate) {
+            return Ok((aggregate.place(headroom, to, ends), next_don));
+        }
+        if units.len() == 1 && fits_one(self.codec, self.limit(mtu), units[0]) {
+            let mut single = OnePacket::new();
+            if let Ok(next_don) = self.prepare_units(packing, mtu, units, &mut single) {
+                return Ok((single.place(headroom, to, ends), next_don));
             }
         }
         let mut made: Vec<PacketParts<'a>> = Vec::new(self.alloc);

@@ -1,14 +1,14 @@
 //! How many units go in one packet.
 
-ghost use Rattle.std.specs.Prelude.{◌≡◌, ◌≤◌, ◌-◌, ◌∷◌, length, take, drop};
+ghost use Rattle.std.specs.Prelude.{◌≡◌, ◌≤◌, ◌∷◌, true, length, take, drop};
 ghost use Rattle.h26x_model.specs.Payload.Format.{IsLimit};
 ghost use Rattle.h26x_model.specs.Send.Every.{groups_of, go_together};
 ghost use Rattle.h26x_packetizer.specs.Group.{lent_units, may_share, fits_room, fitting};
-ghost use Rattle.h26x_packetizer.specs.Group as spec;
+ghost use Rattle.h26x_packetizer.specs.InOne.{GoInOne};
 
 use crate::every_format::EveryFormat;
 use crate::packing::Packing;
-use crate::units::fits_one;
+use crate::refusal::unit_refusal;
 
 /// Whether a unit may share a packet.
 fn may_share<C: EveryFormat>(codec: C, packing: Packing, unit: &[u8]) -> bool
@@ -72,20 +72,30 @@ pub(crate) fn first_group<C: EveryFormat>(
     if count == 0 { 1 } else { count }
 }
 
-/// Whether units go in one packet: one whole, or several together.
-#[inline]
-pub(crate) fn fit_together<C: EveryFormat>(
+/// Whether several units go in one packet, and all of them can go: both are told by one look at each.
+#[inline(always)]
+pub(crate) fn go_in_one<C: EveryFormat>(
     codec: C,
     packing: Packing,
     limit: usize,
     units: &[&[u8]],
 ) -> bool
-    ensures { result ≡ spec.fit_together (C.format codec) (may_share packing (C.is_slice codec))
-        (C.start codec) (C.each codec) limit (lent_units units.now) }
+    ensures go { result ≡ true → GoInOne (C.format codec) packing (C.is_slice codec) (C.start codec)
+        (C.each codec) limit (lent_units units.now) }
+    ensures all { GoInOne (C.format codec) packing (C.is_slice codec) (C.start codec)
+        (C.each codec) limit (lent_units units.now) → result ≡ true }
 {
-    if units.len() == 1 {
-        return fits_one(codec, limit, units[0]);
+    if units.len() < 2 {
+        return false;
     }
-    let room = limit.saturating_sub(codec.units_start());
-    fitting(codec, packing, room, units) == units.len()
+    let each = codec.unit_start();
+    let mut left = limit.saturating_sub(codec.units_start());
+    for unit in units {
+        let goes = may_share(codec, packing, unit) && fits_room(each, left, unit);
+        if !goes || unit_refusal(codec, packing, limit, unit).is_some() {
+            return false;
+        }
+        left -= each + unit.len();
+    }
+    true
 }

@@ -2,8 +2,10 @@
 
 ghost use Rattle.std.specs.Prelude.{◌≡◌, ◌≤◌, ◌+◌, ◌-◌, ◌^◌, ◌++◌, [], min, length};
 ghost use Rattle.h26x_packetizer.specs.Sending.{packet_bytes};
+ghost use Rattle.h26x_packetizer.specs.Placement.{IsPlacement};
 
 use crate::body::Body;
+use crate::placement::{PacketsSize, Placement, place_one};
 use crate::sink::PacketSink;
 use h26x_payload::copy_bytes;
 use std::alloc::AllocError;
@@ -99,12 +101,18 @@ impl<'a> OnePacket<'a> {
         OnePacket { packet: None }
     }
 
-    /// The packet, if there is one, as a slice.
+    /// Copies it to the front of memory where it fits.
     #[inline(always)]
-    pub(crate) fn as_slice(&self) -> &[PacketParts<'a>]
-        ensures { result.now ≡ self.now }
+    pub(crate) fn place(&self, headroom: usize, to: &mut [u8], ends: &mut [usize]) -> Placement
+        ensures { IsPlacement headroom self.now to.old to.new ends.old ends.new result }
     {
-        self.packet.as_slice()
+        match &self.packet {
+            Some(packet) => place_one(packet, headroom, to, ends),
+            None => Placement::Placed(PacketsSize {
+                packets: 0,
+                bytes: 0,
+            }),
+        }
     }
 }
 

@@ -1,6 +1,6 @@
 //! Packets in memory of the caller.
 
-ghost use Rattle.std.specs.Prelude.{◌≡◌, ◌<◌, ◌≤◌, ◌-◌, ◌^◌, ◌++◌, drop, length};
+ghost use Rattle.std.specs.Prelude.{◌≡◌, ◌<◌, ◌≤◌, ◌-◌, ◌^◌, ◌++◌, ◌∷◌, [], drop, length};
 ghost use Rattle.h26x_packetizer.specs.Buffer.{packet_ends};
 ghost use Rattle.h26x_packetizer.specs.Placement.{laid_size, packets_over, IsPlacement, IsSizeOf};
 
@@ -74,5 +74,28 @@ pub(crate) fn place(
         return Placement::NoRoom(size);
     }
     lay(packets, headroom, to, ends);
+    Placement::Placed(size)
+}
+
+/// Copies a packet to the front of memory where it fits.
+#[inline(always)]
+pub(crate) fn place_one(
+    packet: &PacketParts<'_>,
+    headroom: usize,
+    to: &mut [u8],
+    ends: &mut [usize],
+) -> Placement
+    ensures { IsPlacement headroom (packet.now ∷ []) to.old to.new ends.old ends.new result }
+{
+    let end = headroom.saturating_add(packet.len());
+    let size = PacketsSize {
+        packets: 1,
+        bytes: end,
+    };
+    if end > to.len() || ends.is_empty() {
+        return Placement::NoRoom(size);
+    }
+    packet.copy_to(&mut to[headroom..end]);
+    ends[0] = end;
     Placement::Placed(size)
 }

@@ -49,7 +49,8 @@ fn is_too_long<C: EveryFormat>(codec: C, packing: Packing, limit: usize, unit: &
 }
 
 /// Why this unit can't go, if it can't.
-fn unit_refusal<C: EveryFormat>(
+#[inline]
+pub(crate) fn unit_refusal<C: EveryFormat>(
     codec: C,
     packing: Packing,
     limit: usize,

@@ -13,6 +13,7 @@ use crate::proved::h26x_packetizer::units::push_unit;
 use crate::support::AllocError;
 
 /// Appends an aggregate of units.
+#[inline(always)]
 fn push_together<'a, C: EveryFormat, S: PacketSink<'a>>(
     codec: C,
     don: u16,
@@ -31,6 +32,7 @@ fn push_together<'a, C: EveryFormat, S: PacketSink<'a>>(
 }
 
 /// Appends the packets of a group of units; the next number.
+#[inline(always)]
 fn push_group<'a, C: EveryFormat, S: PacketSink<'a>>(
     codec: C,
     limit: usize,
@@ -43,6 +45,19 @@ fn push_group<'a, C: EveryFormat, S: PacketSink<'a>>(
     }
     push_together(codec, don, units, made)?;
     Ok(don.wrapping_add((units.len() % 65536) as u16))
+}
+
+/// Appends the packet of units that are known to go in one, as [`push_units`] does: none is looked at
+/// again to tell how many go.
+#[inline(always)]
+pub(crate) fn push_in_one<'a, C: EveryFormat, S: PacketSink<'a>>(
+    codec: C,
+    limit: usize,
+    don: u16,
+    units: &'a [&'a [u8]],
+    made: &mut S,
+) -> Result<u16, PacketError> {
+    push_group(codec, limit, don, units, made)
 }
 
 /// Appends the packets of units, in order, none of them left out; the next number.

@@ -3,15 +3,16 @@
 //! Packets of units, none of which is left out.
 
 use crate::proved::h26x_packetizer::buffer::{Appending, PacketBuffer};
-use crate::proved::h26x_packetizer::every::push_units;
+use crate::proved::h26x_packetizer::every::{push_in_one, push_units};
 use crate::proved::h26x_packetizer::every_format::EveryFormat;
-use crate::proved::h26x_packetizer::group::fit_together;
+use crate::proved::h26x_packetizer::group::go_in_one;
 use crate::proved::h26x_packetizer::packet_parts::{OnePacket, PacketParts};
 use crate::proved::h26x_packetizer::packetizer::PayloadPacketizer;
 use crate::proved::h26x_packetizer::packing::Packing;
 use crate::proved::h26x_packetizer::placement::{PacketsSize, Placement, place, size_of};
 use crate::proved::h26x_packetizer::refusal::{RefusedUnit, units_refusal};
 use crate::proved::h26x_packetizer::sink::PacketSink;
+use crate::proved::h26x_packetizer::units::fits_one;
 use crate::support::AllocError;
 use alloc::vec::Vec;
 
@@ -51,6 +52,27 @@ impl<C: EveryFormat> PayloadPacketizer<C> {
                 Ok(next_don)
             }
             Err(_) => Err(EveryUnitError::OutOfMemory),
+        }
+    }
+
+    /// Appends the packet of several units that all can go, and in one; the next number. `None` where
+    /// they don't: then it isn't said what can't go.
+    #[inline(always)]
+    fn prepare_in_one<'a, S: PacketSink<'a>>(
+        &self,
+        packing: Packing,
+        mtu: usize,
+        units: &'a [&'a [u8]],
+        made: &mut S,
+    ) -> Option<u16> {
+        let limit = self.limit(mtu);
+        if !go_in_one(self.codec, packing, limit, units) {
+            return None;
+        }
+        match push_in_one(self.codec, limit, self.next_don, units, made) {
+            Ok(next_don) if self.codec.has_donl() => Some(next_don),
+            Ok(_) => Some(self.next_don),
+            Err(_) => None,
         }
     }
 
@@ -115,7 +137,8 @@ impl<C: EveryFormat> PayloadPacketizer<C> {
         Ok(size_of(&made, headroom))
     }
 
-    /// Copies the packets of units to memory where they fit; the next number.
+    /// Copies the packets of units to memory where they fit; the next number. One packet is placed
+    /// without a list of packets.
     fn prepare_units_placed<'a>(
         &self,
         packing: Packing,
@@ -125,10 +148,14 @@ impl<C: EveryFormat> PayloadPacketizer<C> {
         to: &mut [u8],
         ends: &mut [usize],
     ) -> Result<(Placement, u16), EveryUnitError> {
-        if fit_together(self.codec, packing, self.limit(mtu), units) {
-            let mut made = OnePacket::new();
-            if let Ok(next_don) = self.prepare_units(packing, mtu, units, &mut made) {
-                return Ok((place(made.as_slice(), headroom, to, ends), next_don));
+        let mut aggregate = OnePacket::new();
+        if let Some(next_don) = self.prepare_in_one(packing, mtu, units, &mut aggregate) {
+            return Ok((aggregate.place(headroom, to, ends), next_don));
+        }
+        if units.len() == 1 && fits_one(self.codec, self.limit(mtu), units[0]) {
+            let mut single = OnePacket::new();
+            if let Ok(next_don) = self.prepare_units(packing, mtu, units, &mut single) {
+                return Ok((single.place(headroom, to, ends), next_don));
             }
         }
         let mut made: Vec<PacketParts<'a>> = Vec::new();

@@ -4,7 +4,7 @@
 
 use crate::proved::h26x_packetizer::every_format::EveryFormat;
 use crate::proved::h26x_packetizer::packing::Packing;
-use crate::proved::h26x_packetizer::units::fits_one;
+use crate::proved::h26x_packetizer::refusal::unit_refusal;
 
 /// Whether a unit may share a packet.
 fn may_share<C: EveryFormat>(codec: C, packing: Packing, unit: &[u8]) -> bool {
@@ -50,17 +50,25 @@ pub(crate) fn first_group<C: EveryFormat>(
     if count == 0 { 1 } else { count }
 }
 
-/// Whether units go in one packet: one whole, or several together.
-#[inline]
-pub(crate) fn fit_together<C: EveryFormat>(
+/// Whether several units go in one packet, and all of them can go: both are told by one look at each.
+#[inline(always)]
+pub(crate) fn go_in_one<C: EveryFormat>(
     codec: C,
     packing: Packing,
     limit: usize,
     units: &[&[u8]],
 ) -> bool {
-    if units.len() == 1 {
-        return fits_one(codec, limit, units[0]);
+    if units.len() < 2 {
+        return false;
     }
-    let room = limit.saturating_sub(codec.units_start());
-    fitting(codec, packing, room, units) == units.len()
+    let each = codec.unit_start();
+    let mut left = limit.saturating_sub(codec.units_start());
+    for unit in units {
+        let goes = may_share(codec, packing, unit) && fits_room(each, left, unit);
+        if !goes || unit_refusal(codec, packing, limit, unit).is_some() {
+            return false;
+        }
+        left -= each + unit.len();
+    }
+    true
 }

@@ -3,6 +3,7 @@
 //! Packets as the parts that they are made of, before they are copied anywhere.
 
 use crate::proved::h26x_packetizer::body::Body;
+use crate::proved::h26x_packetizer::placement::{PacketsSize, Placement, place_one};
 use crate::proved::h26x_packetizer::sink::PacketSink;
 use crate::proved::h26x_payload::copy_bytes;
 use crate::support::AllocError;
@@ -66,10 +67,16 @@ impl<'a> OnePacket<'a> {
         OnePacket { packet: None }
     }
 
-    /// The packet, if there is one, as a slice.
+    /// Copies it to the front of memory where it fits.
     #[inline(always)]
-    pub(crate) fn as_slice(&self) -> &[PacketParts<'a>] {
-        self.packet.as_slice()
+    pub(crate) fn place(&self, headroom: usize, to: &mut [u8], ends: &mut [usize]) -> Placement {
+        match &self.packet {
+            Some(packet) => place_one(packet, headroom, to, ends),
+            None => Placement::Placed(PacketsSize {
+                packets: 0,
+                bytes: 0,
+            }),
+        }
     }
 }
 

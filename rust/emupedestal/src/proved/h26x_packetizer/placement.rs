@@ -63,3 +63,24 @@ pub(crate) fn place(
     lay(packets, headroom, to, ends);
     Placement::Placed(size)
 }
+
+/// Copies a packet to the front of memory where it fits.
+#[inline(always)]
+pub(crate) fn place_one(
+    packet: &PacketParts<'_>,
+    headroom: usize,
+    to: &mut [u8],
+    ends: &mut [usize],
+) -> Placement {
+    let end = headroom.saturating_add(packet.len());
+    let size = PacketsSize {
+        packets: 1,
+        bytes: end,
+    };
+    if end > to.len() || ends.is_empty() {
+        return Placement::NoRoom(size);
+    }
+    packet.copy_to(&mut to[headroom..end]);
+    ends[0] = end;
+    Placement::Placed(size)
+}
